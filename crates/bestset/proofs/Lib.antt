@@ -1,0 +1,15 @@
+pub mod ByHand
+pub mod Digits
+pub mod Order
+pub mod Meets
+pub mod Tops
+pub mod Steps
+pub mod Marks
+pub mod Scores
+pub mod Promised
+pub mod Choosing
+pub mod Deciding
+pub mod Meeting
+pub mod Judging
+pub mod Named
+pub mod Bridge

@@ -1,0 +1,75 @@
+-- The best set of any kind of sets: there is one, two kinds with the same sets have the same, and what one set more does to it.
+use Prim.Native.Nat.{ℕ, _≤_}
+use native.Mathlib.Nat.{le-refl}
+use native.Mathlib.Omega.{arith}
+use mathlib.Core.Path.{_≡_, refl, sym, ap, ap₂}
+use mathlib.Core.Logic.{_⊎_, inl, inr, ⊎-elim}
+use Rattle.bestset.specs.Sets.{positions, total, Earlier, Top}
+use Rattle.bestset.specs.Masked.{Beats, Answers}
+use Rattle.bestset.specs.declared.search.Best.{Best}
+use Rattle.bestset.specs.declared.search.Best.the-variants.{Chosen, Nothing}
+use Rattle.bestset.proofs.Order.{asym}
+
+-- ---- one answer
+
+pub one-top : {Adm : ℕ → Type 0} {score : ℕ → ℕ} {a s b t : ℕ} → Top Adm score a s → Top Adm score b t → (a ≡ b) × (s ≡ t)
+one-top {a = a} {s = s} {b = b} {t = t} p q =
+    let l = q .most s (p .right) in
+    let g = p .most t (q .right) in
+    let u = p .sum in
+    let v = q .sum in (
+      omega arith,
+      ⊎-elim
+          (λ (h : t ≡ s). sym h)
+          (λ (h : Earlier (positions s) (positions t)).
+          ⊎-elim
+          (λ (k : s ≡ t). k)
+          (λ (k : Earlier (positions t) (positions s)). absurd (asym (positions s) (positions t) h k))
+          (q .first s (p .right) (omega arith)))
+          (p .first t (q .right) (omega arith)),
+    )
+
+-- ---- two kinds with the same sets
+
+pub top-iff : {A B : ℕ → Type 0} {score : ℕ → ℕ} {a s : ℕ} → ((t : ℕ) → A t → B t) → ((t : ℕ) → B t → A t) → Top A score a s → Top B score a s
+top-iff {s = s} f g r = record { right = f s (r .right); sum = r .sum; most = λ t d. r .most t (g t d); first = λ t d. r .first t (g t d) }
+
+module _ (A B : ℕ → Type 0) (score : ℕ → ℕ) where
+  pub answers-iff : ((t : ℕ) → A t → B t) → ((t : ℕ) → B t → A t) → (b : Best) → Answers A score b → Answers B score b
+  answers-iff f g (Chosen a s) r = top-iff f g r
+  answers-iff f g Nothing r = λ t d. r t (g t d)
+
+  -- ---- one set s more
+
+  module _ (s : ℕ) (g : (t : ℕ) → B t → A t ⊎ (t ≡ s)) where
+    most-of : (x : ℕ) → ((t : ℕ) → A t → total score t ≤ x) → total score s ≤ x → (t : ℕ) → B t → total score t ≤ x
+    most-of x h e t d = ⊎-elim (h t) (λ (q : t ≡ s). let k = ap (total score) q in omega arith) (g t d)
+
+    -- which comes to more
+    pub answers-more : B s → (b : Best) → Beats b (total score s) → Answers A score b → Answers B score (Chosen (total score s) s)
+    answers-more ok (Chosen x y) e r =
+        record {
+          right = ok;
+          sum = refl;
+          most = most-of (total score s) (λ t q. let k = r .most t q in omega arith) (le-refl (total score s));
+          first = λ t d f. ⊎-elim (λ (q : A t). let k = r .most t q in absurd (omega arith)) inl (g t d);
+        }
+    answers-more ok Nothing e r =
+        record {
+          right = ok;
+          sum = refl;
+          most = most-of (total score s) (λ t q. absurd (r t q)) (le-refl (total score s));
+          first = λ t d f. ⊎-elim (λ (q : A t). absurd (r t q)) inl (g t d);
+        }
+
+    -- which comes to no more, and after the others
+    pub answers-same : ((t : ℕ) → A t → B t) → ((y t : ℕ) → A y → B t → t ≡ s → Earlier (positions y) (positions t))
+        → (b : Best) → (Beats b (total score s) → ⊥) → Answers A score b → Answers B score b
+    answers-same f l (Chosen x y) n r =
+        record {
+          right = f y (r .right);
+          sum = r .sum;
+          most = most-of x (r .most) (omega arith);
+          first = λ t d e. ⊎-elim (λ (q : A t). r .first t q e) (λ (q : t ≡ s). inr (l y t (r .right) d q)) (g t d);
+        }
+    answers-same f l Nothing n r = absurd (n tt)

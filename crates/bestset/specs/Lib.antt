@@ -1,0 +1,11 @@
+pub mod Sets
+pub mod Results
+pub mod Reading
+pub mod Counting
+pub mod Admissible
+pub mod Rules
+pub mod Promise
+pub mod Computed
+pub mod Masked
+pub mod Inner
+pub mod Screening

@@ -1,0 +1,40 @@
+# How a C program that links the proved library is built and run, on x86-64 and on Arm, where it runs under the kit's emulator.
+# Sourced by tests/run at the root of the repository.
+
+library=target/staticlib/libcapi.a
+warnings='-std=c99 -Wall -Wextra -Werror -Iinclude'
+
+# build_c SOURCE PROGRAM
+build_c() {
+    mkdir -p "$(dirname "$2")" || return 1
+    case $(uname -m) in
+        x86_64)
+            # shellcheck disable=SC2086
+            cc $warnings -O2 "$1" "$library" -o "$2"
+            ;;
+        aarch64)
+            tools=$(dirname "$(dirname "$(rt doc)")")/on/aarch64/toolchain
+            # shellcheck disable=SC2086
+            clang --target=x86_64-linux-gnu -I/usr/include/aarch64-linux-gnu $warnings -O2 -fPIE -c "$1" -o "$2.o" &&
+                "$tools/bin/ld.lld" -pie -o "$2" --dynamic-linker /lib64/ld-linux-x86-64.so.2 \
+                    "$tools/lib/Scrt1.o" "$tools/lib/crti.o" "$tools/lib/crtbeginS.o" "$2.o" "$library" \
+                    "$tools/lib/libc.so.6" "$tools/lib/libc_nonshared.a" "$tools/lib/libgcc.a" \
+                    "$tools/lib/crtendS.o" "$tools/lib/crtn.o"
+            ;;
+        *)
+            printf 'no way to build C here: the machine is %s\n' "$(uname -m)"
+            return 1
+            ;;
+    esac
+}
+
+# run_c PROGRAM
+run_c() {
+    case $(uname -m) in
+        x86_64) "$1" ;;
+        *)
+            tools=$(dirname "$(dirname "$(rt doc)")")/on/aarch64/toolchain
+            "$tools/bin/qemu-x86_64" "$tools/lib/ld-linux-x86-64.so.2" --library-path "$tools/lib" "$1"
+            ;;
+    esac
+}
