@@ -2,7 +2,7 @@
 # Sourced by tests/run at the root of the repository.
 
 library=target/staticlib/libcapi.a
-warnings='-std=c99 -Wall -Wextra -Werror -Iinclude'
+warnings='-std=c99 -D_POSIX_C_SOURCE=199309L -Wall -Wextra -Werror -Iinclude'
 
 # build_c SOURCE PROGRAM
 build_c() {

@@ -1,1 +1,3 @@
-pub mod Flat
+pub mod Best
+pub mod Population
+pub mod Cohorts

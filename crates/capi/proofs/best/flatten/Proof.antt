@@ -1,10 +1,10 @@
-use Rattle.capi.specs.Flat.{flat}
+use Rattle.capi.specs.Best.{flatBest}
 use Rattle.bestset.specs.declared.Answer.{Answer}
 use Rattle.bestset.specs.Promise.{said}
 use mathlib.Core.Path.{sym, ap}
 use borrow.Author.Needs.{needs}
-use Rattle.capi.proofs.flatten.Statement.{statement}
-use Rattle.capi.proofs.flatten.Tie as tie
+use Rattle.capi.proofs.best.flatten.Statement.{statement}
+use Rattle.capi.proofs.best.flatten.Tie as tie
 use Rattle.paper.proofs.refusal.number.Reads as number-reads
 use Rattle.paper.proofs.refusal.place.Reads as place-reads
 
@@ -24,10 +24,10 @@ place-requires : tie.Need-place-requires
 place-requires c κs = search needs
 
 returns : tie.Need-returns
-returns c = sym (ap (λ (a : Answer). flat (said a)) (c .before .answer .given .1))
+returns c = sym (ap (λ (a : Answer). flatBest (said a)) (c .before .answer .given .1))
 
 returns-2 : tie.Need-returns-2
-returns-2 c = rw (c .before .number .ensures, c .place .ensures) (sym (ap (λ (a : Answer). flat (said a)) (c .before .before .before .answer2 .given .1)))
+returns-2 c = rw (c .before .number .ensures, c .place .ensures) (sym (ap (λ (a : Answer). flatBest (said a)) (c .before .before .before .answer2 .given .1)))
 
 pub flatten-spec : {M : Type 1} → statement M
 flatten-spec =

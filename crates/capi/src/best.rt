@@ -1,0 +1,47 @@
+// The best set of one student.
+ghost use mathlib.Core.Path.{_≡_};
+ghost use Rattle.bestset.specs.Counting.{student};
+ghost use Rattle.bestset.specs.Promise.{said};
+ghost use Rattle.capi.specs.Best.{flatBest, BestCalled};
+use bestset::Answer;
+use paper::refusal;
+
+// Accepted: refusal and place are 0. Refused: aggregate and set are 0.
+#[repr(C)]
+pub struct BestSet {
+    pub refusal: u64,
+    pub place: u64,
+    pub aggregate: u32,
+    pub set: u16,
+}
+
+fn flatten(answer: Answer) -> BestSet
+    ensures { λ r. ⌜ r ≡ flatBest (said answer) ⌝ }
+{
+    match answer {
+        Answer::Accepted { aggregate, set } => BestSet {
+            refusal: 0,
+            place: 0,
+            aggregate,
+            set,
+        },
+        Answer::Refused(x) => BestSet {
+            refusal: refusal::number(x) as u64,
+            place: refusal::place(x) as u64,
+            aggregate: 0,
+            set: 0,
+        },
+    }
+}
+
+#[no_mangle]
+pub extern "C" fn shtegomir_best_set(
+    catalogue: &[u8],
+    table: &[u8],
+    year: u64,
+    results: &[u8],
+) -> BestSet
+    ensures { λ r. ⌜ BestCalled (student (now (catalogue .entry)) (now (results .entry)) year) (now (table .entry)) r ⌝ }
+{
+    flatten(bestset::best_set(catalogue, table, results, year))
+}

@@ -1,0 +1,5 @@
+pub mod ByHand
+pub mod Digits
+pub mod Fits
+pub mod Joining
+pub mod Means

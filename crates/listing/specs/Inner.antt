@@ -1,0 +1,28 @@
+-- What the functions below the four lines promise each other.
+use Prim.Native.Nat.{ℕ, zero, suc, min}
+use mathlib.Core.Path.{_≡_}
+use mathlib.Core.List.{List, [], _∷_, _++_}
+use lib.ListN.{length}
+use Rattle.paper.specs.Rulings.{numberOf, placeOf}
+use Rattle.paper.specs.Refusals.{fault}
+use Rattle.paper.specs.declared.refusal.Refusal.{Refusal}
+use Rattle.listing.specs.Lines.{fileLine}
+use Rattle.listing.specs.declared.writing.Line.{Line}
+
+-- the first n bytes of a text, with zeros after it where it is shorter
+unfoldable pub padded : ℕ → List ℕ → List ℕ
+padded zero text = []
+padded (suc n) [] = 0 ∷ padded n []
+padded (suc n) (byte ∷ text) = byte ∷ padded n text
+
+-- the line of a text, of which 64 bytes are kept
+abbrev pub lineOf : List ℕ → Line
+lineOf text = record { bytes = padded 64 text; length = min 64 (length text) }
+
+-- the second line is the first with more text at its end
+pub record Adds (before after : Line) (more : List ℕ) : Type 0 where
+  pub added : (text : List ℕ) → before ≡ lineOf text → after ≡ lineOf (text ++ more)
+
+-- how a line of a refusal ends
+abbrev pub ending : Refusal → List ℕ
+ending refusal = fileLine (numberOf (fault refusal)) (placeOf (fault refusal))

@@ -1,0 +1,46 @@
+// For each value its rank and its percentile.
+ghost use mathlib.Core.Path.{_≡_};
+ghost use Prim.Native.Nat.{_≤_};
+ghost use lib.ListN.{length};
+ghost use Rattle.ranks.specs.Promise.{Ranked, Promise};
+use paper::limits::MOST_VALUES;
+use paper::refusal::Refusal;
+
+mod percent;
+mod search;
+mod sort;
+
+// Accepted, or what is wrong.
+pub enum Answer {
+    Accepted,
+    Refused(Refusal),
+}
+
+// Fills both buffers, sorting the values in them first.
+fn fill(values: &[u32], ranks: &mut [u32], percentiles: &mut [u32])
+    requires { ⌜ (length (now values) ≤ 100000) × (length (now ranks) ≡ length (now values)) × (length (now percentiles) ≡ length (now values)) ⌝ }
+    ensures { λ _. ⌜ Ranked (now (values .entry)) (now (ranks .exit)) (now (percentiles .exit)) ⌝ }
+{
+    sort::copy(values, ranks);
+    sort::copy(values, percentiles);
+    sort::sort(ranks, percentiles);
+    search::count_each(values, percentiles, ranks);
+    percent::percent_each(ranks, percentiles);
+}
+
+// Fills a rank and a percentile for each value. A refusal writes nothing.
+pub fn ranks(values: &[u32], ranks: &mut [u32], percentiles: &mut [u32]) -> Answer
+    ensures { λ r. ⌜ Promise (now (values .entry)) (now (ranks .entry)) (now (percentiles .entry)) r (now (ranks .exit)) (now (percentiles .exit)) ⌝ }
+{
+    if MOST_VALUES < values.len() {
+        return Answer::Refused(Refusal::TooMany(MOST_VALUES));
+    }
+    if ranks.len() != values.len() {
+        return Answer::Refused(Refusal::WrongLength);
+    }
+    if percentiles.len() != values.len() {
+        return Answer::Refused(Refusal::WrongLength);
+    }
+    fill(values, ranks, percentiles);
+    Answer::Accepted
+}
