@@ -66,7 +66,7 @@ tally-determined aggregates table Y counts bands r q c p c′ p′ a b =
     let e = tally-once aggregates table Y counts bands (a .answer) (b .answer) c p c′ p′ (a .promised) (b .promised) in
     (same (λ (x : BandsAnswer). flatPlaced (saidBands x)) r q (a .answer) (b .answer) (a .flattened) (b .flattened) (e .0), e .1, e .2)
 
--- the struct of the computed best set is permitted, and no other
+-- the struct of the computed best set is permitted
 pub best-meets : (s : Student) (table : List ℕ) → BestCalled s table (flatBest (saidBest (answer (computed s table))))
 best-meets s table = record { answer = answer (computed s table); promised = best-met s table; flattened = refl }
 

@@ -24,7 +24,7 @@ each-more text byte f h i l = go (decLt i (length text))
         rw (e, getD-append-seam text byte [] 0) h
 
 one : (n : ℕ) → n < 10 → Decimal n (digit n ∷ [])
-one n h = record { each = each-more [] (digit n) (λ i l. absurd (omega arith)) (omega arith, omega arith); value = omega arith; some = omega arith; lead = λ p. omega arith }
+one n h = record { each = each-more [] (digit n) (λ i l. absurd (omega arith)) (omega arith, omega arith); value = omega arith; some = omega arith; lead = λ p. omega arith; alone = λ p. refl }
 
 more : (n : ℕ) (text : List ℕ) → 10 ≤ n → Decimal (n / 10) text → Decimal n (text ++ (digit n ∷ []))
 more n text h d =
@@ -33,6 +33,7 @@ more n text h d =
       value = read-last 0 text (digit n) ∙ rw (d .value) (omega arith);
       some = simp length-append (omega arith);
       lead = λ p. rw (List·getD-append text (digit n ∷ []) 0 0 (d .some)) (d .lead (omega arith));
+      alone = λ p. absurd (omega arith);
     }
 
 pub decimal : (n : ℕ) → Decimal n (digits n)

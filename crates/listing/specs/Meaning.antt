@@ -12,9 +12,10 @@ readOn n (byte ∷ text) = readOn (n * 10 + (byte - 48)) text
 abbrev pub Digit : ℕ → Type 0
 Digit byte = (48 ≤ byte) × (byte ≤ 57)
 
--- a text is the number in decimal: each byte is a digit, they say the number, and the first is no 0 unless the number is
+-- a text is the number in decimal: each byte is a digit, they say the number, and the first is no 0 unless the number is, which is one digit
 pub record Decimal (n : ℕ) (text : List ℕ) : Type 0 where
   pub each : (i : ℕ) → i < length text → Digit (getD text i 0)
   pub value : readOn 0 text ≡ n
   pub some : 0 < length text
   pub lead : 0 < n → 48 < getD text 0 0
+  pub alone : n ≡ 0 → length text ≡ 1

@@ -1,0 +1,1 @@
+// A whole file to its listing: so far as a definition.
