@@ -6,14 +6,15 @@ use lib.ListN.{length, getD}
 use lib.Dec.{lit<}
 use borrow.Author.Tests.{eq-eqb}
 use Rattle.paper.specs.Lists.{sum, count, total, listed}
-use Rattle.paper.specs.Rulings.{accepted}
+use Rattle.paper.specs.Rulings.{accepted, refused, _at_}
+use Rattle.paper.specs.declared.refusal.Refusal.the-variants.{WrongPopulation}
 use Rattle.bands.specs.Placing.{places}
 use Rattle.bands.specs.Search.{bandsOf}
-use Rattle.bands.specs.Promise.{ruling, tallyRuling, Promise, TallyPromise}
+use Rattle.bands.specs.Promise.{ruling, tallyRuling, Promise, TallyPromise, answer, bandsLeft, countsLeft}
 use Rattle.bands.specs.declared.Answer.{Answer}
-use Rattle.bands.specs.declared.Answer.the-variants.{Accepted}
+use Rattle.bands.specs.declared.Answer.the-variants.{Accepted, Refused}
 use Rattle.bands.proofs.ByHand.{full, three, bands, remainders, tallies, full-within, within}
-use Rattle.bands.proofs.Promised.{only-accepted, tally-only-accepted, tally-exists}
+use Rattle.bands.proofs.Promised.{only, tally-only, only-accepted, tally-only-accepted, tally-exists}
 use Rattle.bands.proofs.Reaching.{none-fit}
 
 -- Y=1, two different: both in 0.00
@@ -59,3 +60,25 @@ only-three-by-tally counts l a b c r counts′ after h =
       ap (λ (l : List ℕ). getD l 30000 0) (o .1) ∙ w .each 30000 (lit< tt) ∙ tallies .1,
       ap (λ (l : List ℕ). getD l 35000 0) (o .1) ∙ w .each 35000 (lit< tt) ∙ tallies .2,
     )
+
+-- Y=0 is refused by both entries, and no program that writes a band or a count then
+zero-ruled : (a b c : ℕ) → ruling three full 0 (a ∷ b ∷ c ∷ []) ≡ refused (9 at 0)
+unfolding full
+zero-ruled a b c = refl
+
+zero-tally-ruled : (counts : List ℕ) (a b c : ℕ) → length counts ≡ 50001 → tallyRuling three full 0 counts (a ∷ b ∷ c ∷ []) ≡ refused (9 at 0)
+unfolding full
+zero-tally-ruled counts a b c l = rw (eq-eqb (length counts) 50001 l) refl
+
+pub only-refused : (a b c : ℕ) (r : Answer) (after : List ℕ) → Promise three full 0 (a ∷ b ∷ c ∷ []) r after → (r ≡ Refused (WrongPopulation 0)) × (after ≡ a ∷ b ∷ c ∷ [])
+only-refused a b c r after h =
+    let o = only three full 0 (a ∷ b ∷ c ∷ []) r after h in
+    let e = zero-ruled a b c in
+    (o .0 ∙ ap answer e, o .1 ∙ ap (bandsLeft three full 0 (a ∷ b ∷ c ∷ [])) e)
+
+pub only-refused-by-tally : (counts : List ℕ) → length counts ≡ 50001 → (a b c : ℕ) (r : Answer) (counts′ after : List ℕ)
+    → TallyPromise three full 0 counts (a ∷ b ∷ c ∷ []) r counts′ after → (r ≡ Refused (WrongPopulation 0)) × (counts′ ≡ counts) × (after ≡ a ∷ b ∷ c ∷ [])
+only-refused-by-tally counts l a b c r counts′ after h =
+    let o = tally-only three full 0 counts (a ∷ b ∷ c ∷ []) r counts′ after h in
+    let e = zero-tally-ruled counts a b c l in
+    (o .0 ∙ ap answer e, o .1 ∙ ap (countsLeft three counts) e, o .2 ∙ ap (bandsLeft three full 0 (a ∷ b ∷ c ∷ [])) e)
