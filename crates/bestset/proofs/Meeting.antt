@@ -3,7 +3,7 @@ use Prim.Native.Nat.{ℕ, zero, suc, _*_, _/_, _%_, _<_, _≤_, _^_}
 use native.Mathlib.Omega.{arith}
 use native.Mathlib.Decide.{decLt}
 use native.Mathlib.Nat.{div-mul-le-self, lt-div-mul-add}
-use mathlib.Core.Path.{_≡_, refl, sym, ap, subst}
+use mathlib.Core.Path.{_≡_, refl, sym, ap, subst, _∙_}
 use mathlib.Core.Bool.{not}
 use mathlib.Core.List.{List, [], _∷_, _++_}
 use lib.Pow.{pow-pos, pow-mono}
@@ -111,3 +111,7 @@ module _ (s : Student) (table : List ℕ) where
   -- and no other
   pub only : (r : Answer) → Promise s table r → r ≡ answer (computed s table)
   only r h = determined s table r (answer (computed s table)) h meets
+
+  -- so what is said is what is computed
+  pub said-only : (r : Answer) → Promise s table r → said r ≡ computed s table
+  said-only r h = ap said (only r h) ∙ said-answer (computed s table) computed-tabled

@@ -1,80 +1,173 @@
 -- What is listed of an accepted file, in the demands' own terms.
-use Prim.Native.Nat.{ℕ, suc, _+_, _<_}
+use Prim.Native.Nat.{ℕ, suc, _+_, _<_, _≤_}
 use native.Mathlib.Omega.{arith}
 use mathlib.Core.Path.{_≡_, refl, sym, ap, subst, _∙_}
 use mathlib.Core.List.{List, [], _∷_, _++_, append-assoc}
-use lib.ListN.{length, getD}
+use lib.ListN.{length, getD, length-append}
 use lib.Seq.{getD-append-seam}
 use Rattle.paper.specs.Rulings.{Outcome, accepted, refused, numberOf, placeOf}
-use Rattle.bestset.specs.Counting.{Student as One, student}
-use Rattle.bestset.specs.Promise.{Values, ruling, Chosen, Answered, Owed}
-use Rattle.bestset.specs.Computed.{computed}
+use Rattle.paper.proofs.Listing.{at-list}
+use Rattle.bestset.specs.Counting.{student}
+use Rattle.bestset.specs.Promise.{Values, ruling, Owed}
 use Rattle.bestset.proofs.Meeting.{computed-owed}
 use Rattle.curve.specs.Population.{Y}
-use Rattle.bands.specs.Placing.{Best, atLeast}
-use Rattle.bands.specs.Search.{bandsOf, bandOf}
-use Rattle.bands.proofs.Placed.{best-exists, best-band}
-use Rattle.listing.specs.Lines.{refusedLine}
+use Rattle.curve.specs.Promise.{values, ruling as curveRuling}
+use Rattle.ranks.specs.Ranking.{rank, percentile, ranksOf, percentilesOf}
+use Rattle.ranks.specs.Promise.{ruling as ranksRuling}
+use Rattle.ranks.proofs.Promised.{computed as ranks-computed}
+use Rattle.bands.specs.Placing.{remainder}
+use Rattle.bands.specs.Search.{bandsOf}
+use Rattle.bands.specs.Promise.{ruling as bandsRuling}
+use Rattle.bands.proofs.Placed.{best-exists}
+use Rattle.listing.specs.Lines.{cohortLine, studentLine, refusedLine}
 use Rattle.cohort.specs.Held.{Student, Held}
-use Rattle.report.specs.Report.{outcomeOf, withAggregate, aggregatesOf, participation, eligibleLine, lineOf, afterOne, linesOf}
+use Rattle.cohort.specs.Reading.{reading}
+use Rattle.cohort.proofs.Holding.{sound}
+use Rattle.report.specs.Report.{outcome, outcomeOf, withAggregate, aggregatesOf, eligibleOf, participation, Columns, columnsOf, eligibleLine, lineOf, afterOne, linesOf, textOfOutcome, textOf}
+use Rattle.report.specs.Inner.{Even, Populated, Placeable, columns}
+use Rattle.report.specs.Meaning.{In, Estimated}
+use Rattle.report.proofs.Accepting.{curve-accepts, ranks-accept, bands-accept}
+use Rattle.report.proofs.Bounded.{chosen, aggregates-most}
 
-at-one : (one : One) (table : List ℕ) (v : Values) → computed one table ≡ accepted v → Chosen one table v
-at-one one table v e = go (ruling one table) (computed-owed one table)
-  where
-    go : (o : Outcome (Unit {0})) → Owed one table (computed one table) o → Chosen one table v
-    go (refused f) w = absurd (let z : _≡_ {A = ℕ} 0 1 = cc in omega arith)
-    go (accepted u) w = subst (Answered one table) e w
-
--- an eligible student's aggregate is the greatest total over all admissible sets of its results
-pub greatest : (held : Held) (s : Student) (v : Values) → outcomeOf held s ≡ accepted v
-    → Chosen (student (held .catalogue) (s .results) (held .year)) (held .table) v
-unfolding outcomeOf
-greatest held s v e = at-one (student (held .catalogue) (s .results) (held .year)) (held .table) v e
-
--- the bands of the eligible, who alone are the cohort, are the best placement over all placements
-pub placed : (held : Held)
-    → Best (aggregatesOf held (held .students)) (participation held) (Y (held .figures)) (bandsOf (aggregatesOf held (held .students)) (participation held) (Y (held .figures)))
-placed held = best-exists (aggregatesOf held (held .students)) (participation held) (Y (held .figures))
-
--- the band listed of the j-th of them is that placement's
-pub listed-band : (held : Held) (j : ℕ) → j < length (aggregatesOf held (held .students))
-    → getD (bandsOf (aggregatesOf held (held .students)) (participation held) (Y (held .figures))) j 0
-    ≡ bandOf (participation held) (Y (held .figures)) (atLeast (aggregatesOf held (held .students)) (getD (aggregatesOf held (held .students)) j 0))
-listed-band held j l = best-band (aggregatesOf held (held .students)) (participation held) (Y (held .figures)) _ (placed held) j l
+-- each student's outcome is what the best set owes: the greatest over all admissible sets, or the refusal that the rules fix
+pub owed : (held : Held) (s : Student)
+    → let one = student (held .catalogue) (s .results) (held .year) in Owed one (held .table) (outcomeOf held s) (ruling one (held .table))
+unfolding outcome
+owed held s = computed-owed (student (held .catalogue) (s .results) (held .year)) (held .table)
 
 -- the aggregates of some students and of those after them
-aggregates-join : (held : Held) (before rest : List Student) → aggregatesOf held (before ++ rest) ≡ aggregatesOf held before ++ aggregatesOf held rest
+aggregates-join : (out : Student → Outcome Values) (before rest : List Student) → aggregatesOf out (before ++ rest) ≡ aggregatesOf out before ++ aggregatesOf out rest
 unfolding aggregatesOf
-aggregates-join held [] rest = refl
-aggregates-join held (s ∷ before) rest = go (outcomeOf held s) (aggregates-join held before rest)
+aggregates-join out [] rest = refl
+aggregates-join out (s ∷ before) rest = go (out s) (aggregates-join out before rest)
   where
-    go : (o : Outcome Values) → aggregatesOf held (before ++ rest) ≡ aggregatesOf held before ++ aggregatesOf held rest
-        → withAggregate o (aggregatesOf held (before ++ rest)) ≡ withAggregate o (aggregatesOf held before) ++ aggregatesOf held rest
+    go : (o : Outcome Values) → aggregatesOf out (before ++ rest) ≡ aggregatesOf out before ++ aggregatesOf out rest
+        → withAggregate o (aggregatesOf out (before ++ rest)) ≡ withAggregate o (aggregatesOf out before) ++ aggregatesOf out rest
     go (accepted v) e = ap (λ (l : List ℕ). v .aggregate ∷ l) e
     go (refused f) e = e
 
 -- an eligible student's place among the eligible is the number of those before, and the aggregate there its own
-pub own-aggregate : (held : Held) (before : List Student) (s : Student) (rest : List Student) (v : Values) → outcomeOf held s ≡ accepted v
-    → getD (aggregatesOf held (before ++ (s ∷ rest))) (length (aggregatesOf held before)) 0 ≡ v .aggregate
+own-aggregate : (out : Student → Outcome Values) (before : List Student) (s : Student) (rest : List Student) (v : Values) → out s ≡ accepted v
+    → getD (aggregatesOf out (before ++ (s ∷ rest))) (length (aggregatesOf out before)) 0 ≡ v .aggregate
 unfolding aggregatesOf
-own-aggregate held before s rest v e =
-    ap (λ (l : List ℕ). getD l (length (aggregatesOf held before)) 0) (aggregates-join held before (s ∷ rest))
-    ∙ ap (λ (o : Outcome Values). getD (aggregatesOf held before ++ withAggregate o (aggregatesOf held rest)) (length (aggregatesOf held before)) 0) e
-    ∙ getD-append-seam (aggregatesOf held before) (v .aggregate) (aggregatesOf held rest) 0
+own-aggregate out before s rest v e =
+    ap (λ (l : List ℕ). getD l (length (aggregatesOf out before)) 0) (aggregates-join out before (s ∷ rest))
+    ∙ ap (λ (o : Outcome Values). getD (aggregatesOf out before ++ withAggregate o (aggregatesOf out rest)) (length (aggregatesOf out before)) 0) e
+    ∙ getD-append-seam (aggregatesOf out before) (v .aggregate) (aggregatesOf out rest) 0
+
+own-within : (out : Student → Outcome Values) (before : List Student) (s : Student) (rest : List Student) (v : Values) → out s ≡ accepted v
+    → length (aggregatesOf out before) < length (aggregatesOf out (before ++ (s ∷ rest)))
+unfolding aggregatesOf
+own-within out before s rest v e =
+    let w : length (aggregatesOf out (before ++ (s ∷ rest))) ≡ length (aggregatesOf out before) + suc (length (aggregatesOf out rest)) =
+    ap length (aggregates-join out before (s ∷ rest)) ∙ length-append (aggregatesOf out before) (withAggregate (out s) (aggregatesOf out rest))
+    ∙ ap (λ (o : Outcome Values). length (aggregatesOf out before) + length (withAggregate o (aggregatesOf out rest))) e in
+    omega arith
 
 -- and its line is written with that place
-pub lines-join : (held : Held) (aggregates : List ℕ) (j : ℕ) (before rest : List Student)
-    → linesOf held aggregates j (before ++ rest) ≡ linesOf held aggregates j before ++ linesOf held aggregates (j + length (aggregatesOf held before)) rest
+lines-join : (out : Student → Outcome Values) (c : Columns) (j : ℕ) (before rest : List Student)
+    → linesOf out c j (before ++ rest) ≡ linesOf out c j before ++ linesOf out c (j + length (aggregatesOf out before)) rest
 unfolding linesOf aggregatesOf
-lines-join held aggregates j [] rest = let e : j ≡ j + 0 = omega arith in ap (λ (n : ℕ). linesOf held aggregates n rest) e
-lines-join held aggregates j (s ∷ before) rest = go (outcomeOf held s) (λ n. lines-join held aggregates n before rest)
+lines-join out c j [] rest = let e : j ≡ j + 0 = omega arith in ap (λ (n : ℕ). linesOf out c n rest) e
+lines-join out c j (s ∷ before) rest = go (out s) (λ n. lines-join out c n before rest)
   where
     go : (o : Outcome Values)
-        → ((n : ℕ) → linesOf held aggregates n (before ++ rest) ≡ linesOf held aggregates n before ++ linesOf held aggregates (n + length (aggregatesOf held before)) rest)
-        → lineOf held aggregates j (s .id) o ++ linesOf held aggregates (afterOne j o) (before ++ rest)
-        ≡ (lineOf held aggregates j (s .id) o ++ linesOf held aggregates (afterOne j o) before)
-        ++ linesOf held aggregates (j + length (withAggregate o (aggregatesOf held before))) rest
+        → ((n : ℕ) → linesOf out c n (before ++ rest) ≡ linesOf out c n before ++ linesOf out c (n + length (aggregatesOf out before)) rest)
+        → lineOf c j (s .id) o ++ linesOf out c (afterOne j o) (before ++ rest)
+        ≡ (lineOf c j (s .id) o ++ linesOf out c (afterOne j o) before)
+        ++ linesOf out c (j + length (withAggregate o (aggregatesOf out before))) rest
     go (accepted v) r =
-        let e : suc j + length (aggregatesOf held before) ≡ j + suc (length (aggregatesOf held before)) = omega arith in
-        rw (r (suc j), e) (sym (append-assoc (eligibleLine held aggregates j (s .id)) (linesOf held aggregates (suc j) before) _))
-    go (refused f) r = rw (r j) (sym (append-assoc (refusedLine (s .id) (numberOf f) (placeOf f)) (linesOf held aggregates j before) _))
+        let e : suc j + length (aggregatesOf out before) ≡ j + suc (length (aggregatesOf out before)) = omega arith in
+        rw (r (suc j), e) (sym (append-assoc (lineOf c j (s .id) (accepted v)) (linesOf out c (suc j) before) _))
+    go (refused f) r = rw (r j) (sym (append-assoc (lineOf c j (s .id) (refused f)) (linesOf out c j before) _))
+
+-- a file that is accepted, and one of its students with those before
+module _ (file : List ℕ) (held : Held) (reads : reading file ≡ accepted held) where
+  abbrev out : Student → Outcome Values
+  out = outcomeOf held
+
+  abbrev cols : Columns
+  cols = columnsOf (held .figures) (eligibleOf held)
+
+  -- the line of each student stands in the text
+  printed : (before : List Student) (s : Student) (rest : List Student) → held .students ≡ before ++ (s ∷ rest)
+      → In (lineOf cols (length (aggregatesOf out before)) (s .id) (out s)) (textOf file)
+  unfolding textOf linesOf
+  printed before s rest e =
+      let front = cohortLine (length (held .students)) (length (eligibleOf held)) (remainder (eligibleOf held) (participation (held .figures)) (Y (held .figures))) in
+      let j = length (aggregatesOf out before) in
+      let tail = linesOf out cols (afterOne j (out s)) rest in
+      record {
+        before = front ++ linesOf out cols 0 before;
+        after = tail;
+        text-is =
+            ap textOfOutcome reads
+            ∙ ap (λ (ss : List Student). front ++ linesOf out cols 0 ss) e
+            ∙ ap (λ (l : List ℕ). front ++ l) (lines-join out cols 0 before (s ∷ rest) ∙ ap (λ (n : ℕ). linesOf out cols 0 before ++ linesOf out cols n (s ∷ rest)) zero-more)
+            ∙ sym (append-assoc front (linesOf out cols 0 before) (lineOf cols j (s .id) (out s) ++ tail));
+      }
+    where
+      zero-more : 0 + length (aggregatesOf out before) ≡ length (aggregatesOf out before)
+      zero-more = omega arith
+
+  -- of an eligible student
+  pub estimated : (before : List Student) (s : Student) (rest : List Student) (v : Values) → held .students ≡ before ++ (s ∷ rest) → out s ≡ accepted v
+      → Estimated file held s (length (aggregatesOf out before))
+  unfolding outcome
+  estimated before s rest v e a =
+      let j = length (aggregatesOf out before) in
+      let w = ap (aggregatesOf out) e in
+      let own : getD (eligibleOf held) j 0 ≡ v .aggregate = ap (λ (l : List ℕ). getD l j 0) w ∙ own-aggregate out before s rest v a in
+      let within : j < length (eligibleOf held) = subst (λ (l : List ℕ). j < length l) (sym w) (own-within out before s rest v a) in
+      let r = ranks-computed (eligibleOf held) in
+      record {
+        values = v;
+        greatest = chosen (student (held .catalogue) (s .results) (held .year)) (held .table) v a;
+        own = own;
+        bands = bandsOf (eligibleOf held) (participation (held .figures)) (Y (held .figures));
+        best = best-exists (eligibleOf held) (participation (held .figures)) (Y (held .figures));
+        printed = subst (λ (line : List ℕ). In line (textOf file)) (line-is j own (r .ranks-are j within) (r .percentiles-are j within)) (subst (λ (o : Outcome Values). In (lineOf cols j (s .id) o) (textOf file)) a (printed before s rest e));
+      }
+    where
+      line-is : (j : ℕ) → getD (eligibleOf held) j 0 ≡ v .aggregate → getD (ranksOf (eligibleOf held)) j 0 ≡ rank (eligibleOf held) j
+          → getD (percentilesOf (eligibleOf held)) j 0 ≡ percentile (length (eligibleOf held)) (rank (eligibleOf held) j)
+          → eligibleLine cols j (s .id)
+          ≡ studentLine (s .id) (v .aggregate) (rank (eligibleOf held) j) (percentile (length (eligibleOf held)) (rank (eligibleOf held) j)) (getD (bandsOf (eligibleOf held) (participation (held .figures)) (Y (held .figures))) j 0)
+      line-is j x y z = λ i. studentLine (s .id) (x i) (y i) (z i) (getD (bandsOf (eligibleOf held) (participation (held .figures)) (Y (held .figures))) j 0)
+
+  -- of a refused student, who refuses nobody else
+  pub turned : (before : List Student) (s : Student) (rest : List Student) (f : _) → held .students ≡ before ++ (s ∷ rest) → out s ≡ refused f
+      → In (refusedLine (s .id) (numberOf f) (placeOf f)) (textOf file)
+  turned before s rest f e a = subst (λ (o : Outcome Values). In (lineOf cols (length (aggregatesOf out before)) (s .id) o) (textOf file)) a (printed before s rest e)
+
+  -- at most as many are eligible as there are students
+  eligible-within : (ss : List Student) → length (aggregatesOf out ss) ≤ length ss
+  unfolding aggregatesOf
+  eligible-within [] = omega arith
+  eligible-within (s ∷ ss) = go (out s) (eligible-within ss)
+    where
+      go : (o : Outcome Values) → length (aggregatesOf out ss) ≤ length ss → length (withAggregate o (aggregatesOf out ss)) ≤ suc (length ss)
+      go (accepted v) h = omega arith
+      go (refused f) h = omega arith
+
+  people : Populated (held .figures) (Y (held .figures))
+  people = record { kept = sound file held reads .population; people = refl }
+
+  placeable : (ranks percentiles bands : List ℕ) → Even (columns (eligibleOf held) ranks percentiles bands) → Placeable (held .figures) (Y (held .figures)) (columns (eligibleOf held) ranks percentiles bands)
+  placeable ranks percentiles bands even =
+      record {
+        populated = people;
+        few = omega (arith, eligible-within (held .students), sound file held reads .few-students);
+        each = aggregates-most (held .catalogue) (held .table) (held .year) (held .students);
+        even = even;
+      }
+
+  -- the inner calls of curve, ranks and bands never refuse, with buffers of the lengths that they ask for
+  pub never-refused : (table ranks percentiles bands : List ℕ) → length table ≡ 2000 → Even (columns (eligibleOf held) ranks percentiles bands)
+      → (curveRuling (held .figures) table ≡ accepted (values (held .figures)))
+      × (ranksRuling (eligibleOf held) ranks percentiles ≡ accepted tt)
+      × (bandsRuling (eligibleOf held) (participation (held .figures)) (Y (held .figures)) bands ≡ accepted (remainder (eligibleOf held) (participation (held .figures)) (Y (held .figures))))
+  never-refused table ranks percentiles bands l even =
+      let c = columns (eligibleOf held) ranks percentiles bands in
+      let p = placeable ranks percentiles bands even in
+      (curve-accepts (held .figures) (Y (held .figures)) people table l, ranks-accept (held .figures) (Y (held .figures)) c p, bands-accept (held .figures) (Y (held .figures)) c p)

@@ -1,2 +1,11 @@
+pub mod Accepting
+pub mod Bounded
 pub mod ByHand
+pub mod Collecting
 pub mod Demands
+pub mod Filed
+pub mod Joined
+pub mod Lining
+pub mod Promised
+pub mod Puts
+pub mod Standing

@@ -1,1 +1,4 @@
 pub mod Report
+pub mod Promise
+pub mod Meaning
+pub mod Inner

@@ -8,58 +8,77 @@ use Rattle.bestset.specs.Promise.{Values}
 use Rattle.bestset.specs.Computed.{computed}
 use Rattle.curve.specs.Population.{Y, rate}
 use Rattle.curve.specs.Curve.{tableOf}
-use Rattle.ranks.specs.Ranking.{rank, percentile}
-use Rattle.bands.specs.Placing.{atLeast, remainder}
-use Rattle.bands.specs.Search.{bandOf}
+use Rattle.ranks.specs.Ranking.{ranksOf, percentilesOf}
+use Rattle.bands.specs.Placing.{remainder}
+use Rattle.bands.specs.Search.{bandsOf}
 use Rattle.cohort.specs.Held.{Student, Held}
 use Rattle.cohort.specs.Reading.{reading}
 use Rattle.listing.specs.Lines.{cohortLine, studentLine, refusedLine, fileLine}
 
--- each student's best set, or why there is none
-unfoldable pub outcomeOf : Held → Student → Outcome Values
-outcomeOf held s = computed (student (held .catalogue) (s .results) (held .year)) (held .table)
+-- a student's best set, or why there is none
+unfoldable pub outcome : List ℕ → List ℕ → ℕ → Student → Outcome Values
+outcome catalogue table year s = computed (student catalogue (s .results) year) table
 
 -- the aggregates of the eligible, who alone are the cohort, in file order
 abbrev pub withAggregate : Outcome Values → List ℕ → List ℕ
 withAggregate (accepted v) rest = v .aggregate ∷ rest
 withAggregate (refused f) rest = rest
 
-unfoldable pub aggregatesOf : Held → List Student → List ℕ
-aggregatesOf held [] = []
-aggregatesOf held (s ∷ students) = withAggregate (outcomeOf held s) (aggregatesOf held students)
+unfoldable pub aggregatesOf : (Student → Outcome Values) → List Student → List ℕ
+aggregatesOf outcomes [] = []
+aggregatesOf outcomes (s ∷ students) = withAggregate (outcomes s) (aggregatesOf outcomes students)
 
--- the participation table of the file's population
-abbrev pub participation : Held → List ℕ
-participation held = tableOf (rate (held .figures))
+-- of each of the eligible the aggregate, the rank, the percentile and the band
+pub record Columns : Type 0 where
+  pub aggregates : List ℕ
+  pub ranks : List ℕ
+  pub percentiles : List ℕ
+  pub bands : List ℕ
 
 -- the line of the student who is j-th of the eligible: id, aggregate, rank, percentile, ATAR
-abbrev pub eligibleLine : Held → List ℕ → ℕ → ℕ → List ℕ
-eligibleLine held aggregates j id =
-    studentLine id (getD aggregates j 0) (rank aggregates j) (percentile (length aggregates) (rank aggregates j))
-    (bandOf (participation held) (Y (held .figures)) (atLeast aggregates (getD aggregates j 0)))
+abbrev pub eligibleLine : Columns → ℕ → ℕ → List ℕ
+eligibleLine c j id = studentLine id (getD (c .aggregates) j 0) (getD (c .ranks) j 0) (getD (c .percentiles) j 0) (getD (c .bands) j 0)
 
 -- a line per student in file order; j students before them are eligible
-abbrev pub lineOf : Held → List ℕ → ℕ → ℕ → Outcome Values → List ℕ
-lineOf held aggregates j id (accepted v) = eligibleLine held aggregates j id
-lineOf held aggregates j id (refused f) = refusedLine id (numberOf f) (placeOf f)
+abbrev pub lineOf : Columns → ℕ → ℕ → Outcome Values → List ℕ
+lineOf c j id (accepted v) = eligibleLine c j id
+lineOf c j id (refused f) = refusedLine id (numberOf f) (placeOf f)
 
 abbrev pub afterOne : ℕ → Outcome Values → ℕ
 afterOne j (accepted v) = suc j
 afterOne j (refused f) = j
 
-unfoldable pub linesOf : Held → List ℕ → ℕ → List Student → List ℕ
-linesOf held aggregates j [] = []
-linesOf held aggregates j (s ∷ students) =
-    lineOf held aggregates j (s .id) (outcomeOf held s) ++ linesOf held aggregates (afterOne j (outcomeOf held s)) students
+unfoldable pub linesOf : (Student → Outcome Values) → Columns → ℕ → List Student → List ℕ
+linesOf outcomes c j [] = []
+linesOf outcomes c j (s ∷ students) = lineOf c j (s .id) (outcomes s) ++ linesOf outcomes c (afterOne j (outcomes s)) students
 
--- the listing of an accepted file: the cohort's line, then a line per student
-abbrev pub listed : Held → List ℕ → List ℕ
-listed held aggregates =
-    cohortLine (length (held .students)) (length aggregates) (remainder aggregates (participation held) (Y (held .figures)))
-    ++ linesOf held aggregates 0 (held .students)
+-- the participation table of the population's rate, and what is listed of the eligible
+abbrev pub participation : List ℕ → List ℕ
+participation figures = tableOf (rate figures)
+
+abbrev pub columnsOf : List ℕ → List ℕ → Columns
+columnsOf figures aggregates = record {
+  aggregates = aggregates;
+  ranks = ranksOf aggregates;
+  percentiles = percentilesOf aggregates;
+  bands = bandsOf aggregates (participation figures) (Y figures);
+}
+
+-- the listing of a cohort: the cohort's line, then a line per student
+abbrev pub listed : (Student → Outcome Values) → List ℕ → List Student → List ℕ → List ℕ
+listed outcomes figures students aggregates =
+    cohortLine (length students) (length aggregates) (remainder aggregates (participation figures) (Y figures))
+    ++ linesOf outcomes (columnsOf figures aggregates) 0 students
+
+-- the outcomes of what a file holds, and its eligible
+abbrev pub outcomeOf : Held → Student → Outcome Values
+outcomeOf held = outcome (held .catalogue) (held .table) (held .year)
+
+abbrev pub eligibleOf : Held → List ℕ
+eligibleOf held = aggregatesOf (outcomeOf held) (held .students)
 
 abbrev pub textOfOutcome : Outcome Held → List ℕ
-textOfOutcome (accepted held) = listed held (aggregatesOf held (held .students))
+textOfOutcome (accepted held) = listed (outcomeOf held) (held .figures) (held .students) (eligibleOf held)
 textOfOutcome (refused f) = fileLine (numberOf f) (placeOf f)
 
 -- the text of every file there is

@@ -1,1 +1,176 @@
-// A whole file to its listing: so far as a definition.
+// A whole file to its listing.
+ghost use mathlib.Core.Path.{_≡_};
+ghost use Prim.Native.Nat.{_≤_};
+ghost use lib.ListN.{length};
+ghost use Rattle.cohort.specs.Held.{Held};
+ghost use Rattle.report.specs.Report.{outcome, aggregatesOf, listed, textOf};
+ghost use Rattle.report.specs.Inner.{studentsIn, Few, Populated, Placeable, columns, Put};
+ghost use Rattle.report.specs.Promise.{Promise};
+use paper::refusal::Refusal;
+
+mod lines;
+mod placing;
+mod students;
+mod writing;
+
+// The length of the text, or what is wrong.
+pub enum Answer {
+    Accepted { length: usize },
+    Refused(Refusal),
+}
+
+// The bytes of a lent text buffer.
+const TEXT: usize = 65536;
+
+// Ranks and places the eligible, and lists the cohort: its line, then a line per student. Answers where the text ends.
+fn list_placed(
+    catalogue: &[u8],
+    table: &[u8],
+    year: u64,
+    figures: &[u32],
+    population: u32,
+    students: usize,
+    ids: &[u32],
+    counts: &[u8],
+    results: &[u8],
+    aggregates: &[u32],
+    ranks: &mut [u32],
+    percentiles: &mut [u32],
+    bands: &mut [u16],
+    text: &mut [u8],
+) -> usize
+    requires { ⌜ Few students (now counts) (now results) × (students ≤ length (now ids)) × Placeable (now figures) population (columns (now aggregates) (now ranks) (now percentiles) (now bands))
+        × (now aggregates ≡ aggregatesOf (outcome (now catalogue) (now table) year) (studentsIn students (now ids) (now counts) (now results)))
+        × (length (now text) ≡ 65536) ⌝ }
+    ensures { λ r. ⌜ Put (now (text .entry)) (now (text .exit)) 0 r
+        (listed (outcome (now (catalogue .entry)) (now (table .entry)) year) (now (figures .entry))
+        (studentsIn students (now (ids .entry)) (now (counts .entry)) (now (results .entry))) (now (aggregates .entry))) ⌝ }
+{
+    let remainder = placing::place(figures, population, aggregates, ranks, percentiles, bands);
+    let line = listing::cohort_line(students as u32, aggregates.len() as u32, remainder as u32);
+    let start = writing::append(text, 0, line);
+    lines::lines(
+        catalogue,
+        table,
+        year,
+        students,
+        ids,
+        counts,
+        results,
+        aggregates,
+        ranks,
+        percentiles,
+        bands,
+        text,
+        start,
+    )
+}
+
+// Lists a cohort, and answers where the text ends.
+fn list_cohort(
+    catalogue: &[u8],
+    table: &[u8],
+    year: u64,
+    figures: &[u32],
+    population: u32,
+    students: usize,
+    ids: &[u32],
+    counts: &[u8],
+    results: &[u8],
+    text: &mut [u8],
+) -> usize
+    requires { ⌜ Few students (now counts) (now results) × (students ≤ length (now ids)) × Populated (now figures) population × (length (now text) ≡ 65536) ⌝ }
+    ensures { λ r. ⌜ Put (now (text .entry)) (now (text .exit)) 0 r
+        (listed (outcome (now (catalogue .entry)) (now (table .entry)) year) (now (figures .entry))
+        (studentsIn students (now (ids .entry)) (now (counts .entry)) (now (results .entry)))
+        (aggregatesOf (outcome (now (catalogue .entry)) (now (table .entry)) year) (studentsIn students (now (ids .entry)) (now (counts .entry)) (now (results .entry))))) ⌝ }
+{
+    let mut aggregates = [0u32; 512];
+    let n = students::collect(
+        catalogue,
+        table,
+        year,
+        students,
+        counts,
+        results,
+        &mut aggregates,
+    );
+    let mut ranks = [0u32; 512];
+    let mut percentiles = [0u32; 512];
+    let mut bands = [0u16; 512];
+    list_placed(
+        catalogue,
+        table,
+        year,
+        figures,
+        population,
+        students,
+        ids,
+        counts,
+        results,
+        &aggregates[..n],
+        &mut ranks[..n],
+        &mut percentiles[..n],
+        &mut bands[..n],
+        text,
+    )
+}
+
+// Lists a file; answers where the text ends.
+fn list_file(file: &[u8], text: &mut [u8]) -> usize
+    requires { ⌜ length (now text) ≡ 65536 ⌝ }
+    ensures { λ r. ⌜ Put (now (text .entry)) (now (text .exit)) 0 r (textOf (now (file .entry))) ⌝ }
+{
+    let mut catalogue = [0u8; 320];
+    let mut table = [0u8; 12800];
+    let mut figures = [0u32; 10];
+    let mut ids = [0u32; 512];
+    let mut counts = [0u8; 512];
+    let mut results = [0u8; 49152];
+    let read = cohort::read(
+        file,
+        &mut catalogue,
+        &mut table,
+        &mut figures,
+        &mut ids,
+        &mut counts,
+        &mut results,
+    );
+    match read {
+        cohort::Answer::Refused(x) => writing::append(text, 0, listing::file_line(x)),
+        cohort::Answer::Accepted {
+            year,
+            subjects,
+            students,
+            results: _,
+            population,
+            rate: _,
+        } => {
+            let c = 5 * subjects;
+            let t = 200 * subjects;
+            list_cohort(
+                &catalogue[..c],
+                &table[..t],
+                year as u64,
+                &figures,
+                population,
+                students,
+                &ids,
+                &counts,
+                &results,
+                text,
+            )
+        }
+    }
+}
+
+// The listing of a file, in a lent text buffer of 65536 bytes. A refusal writes nothing.
+pub fn report(file: &[u8], text: &mut [u8]) -> Answer
+    ensures { λ r. ⌜ Promise (now (file .entry)) (now (text .entry)) r (now (text .exit)) ⌝ }
+{
+    if text.len() != TEXT {
+        return Answer::Refused(Refusal::WrongLength);
+    }
+    let length = list_file(file, text);
+    Answer::Accepted { length }
+}

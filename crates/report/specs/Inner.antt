@@ -1,0 +1,68 @@
+-- What the functions below the entry promise each other.
+use Prim.Native.Nat.{ℕ, zero, suc, _+_, _*_, _≤_, _<_}
+use mathlib.Core.Path.{_≡_}
+use mathlib.Core.List.{List, [], _∷_}
+use lib.ListN.{length, getD, take, drop, set}
+use Rattle.paper.specs.Rulings.{Outcome, accepted, refused}
+use Rattle.bestset.specs.Promise.{Values}
+use Rattle.curve.specs.Population.{Y}
+use Rattle.curve.specs.Promise.{values, populationRuling}
+use Rattle.cohort.specs.Held.{Student}
+use Rattle.cohort.specs.Inner.{laid}
+use Rattle.report.specs.Report.{Columns, aggregatesOf}
+
+-- the first n students whose ids, numbers of results and results stand in buffers
+unfoldable pub studentsIn : ℕ → List ℕ → List ℕ → List ℕ → List Student
+studentsIn zero ids counts results = []
+studentsIn (suc n) ids counts results =
+    record { id = getD ids 0 0; results = take (6 * getD counts 0 0) results }
+    ∷ studentsIn n (drop 1 ids) (drop 1 counts) (drop (6 * getD counts 0 0) results)
+
+-- at most 512 students, of at most 16 results
+pub record Few (n : ℕ) (counts results : List ℕ) : Type 0 where
+  pub students : n ≤ 512
+  pub each : (i : ℕ) → i < n → getD counts i 0 ≤ 16
+  pub counted : n ≤ length counts
+  pub bytes : length results ≡ 49152
+
+-- the aggregate of an eligible student, kept as the j-th of a buffer
+abbrev pub kept : Outcome Values → List ℕ → ℕ → List ℕ
+kept (accepted v) buffer j = set buffer j (v .aggregate)
+kept (refused f) buffer j = buffer
+
+-- the first m numbers of a buffer of 512 are the aggregates of the eligible among n students
+pub record Collected (outcomes : Student → Outcome Values) (n : ℕ) (counts results buffer : List ℕ) (m : ℕ) : Type 0 where
+  pub long : length buffer ≡ 512
+  pub within : m ≤ n
+  pub are : (ids : List ℕ) → take m buffer ≡ aggregatesOf outcomes (studentsIn n ids counts results)
+
+-- each column is as long as the aggregates
+pub record Even (c : Columns) : Type 0 where
+  pub ranks : length (c .ranks) ≡ length (c .aggregates)
+  pub percentiles : length (c .percentiles) ≡ length (c .aggregates)
+  pub bands : length (c .bands) ≡ length (c .aggregates)
+
+-- figures that are accepted, and their Y
+pub record Populated (figures : List ℕ) (population : ℕ) : Type 0 where
+  pub kept : populationRuling figures ≡ accepted (values figures)
+  pub people : population ≡ Y figures
+
+-- aggregates of a cohort of at most 512, with a buffer of their number for each column
+pub record Placeable (figures : List ℕ) (population : ℕ) (c : Columns) : Type 0 where
+  pub populated : Populated figures population
+  pub few : length (c .aggregates) ≤ 512
+  pub each : (i : ℕ) → getD (c .aggregates) i 0 ≤ 50000
+  pub even : Even c
+
+abbrev pub columns : List ℕ → List ℕ → List ℕ → List ℕ → Columns
+columns aggregates ranks percentiles bands = record { aggregates = aggregates; ranks = ranks; percentiles = percentiles; bands = bands }
+
+-- a student who is eligible is the j-th of so many
+abbrev pub Within : ℕ → Outcome Values → ℕ → Type 0
+Within j (accepted v) n = j < n
+Within j (refused f) n = Unit {0}
+
+-- a text put into a buffer, from a place to an end
+pub record Put (before after : List ℕ) (place end : ℕ) (text : List ℕ) : Type 0 where
+  pub content : after ≡ laid before place text
+  pub ends : end ≡ place + length text

@@ -1,0 +1,89 @@
+// The lines of the students.
+ghost use mathlib.Core.Path.{_≡_};
+ghost use Prim.Native.Nat.{_+_, _*_, _≤_, _<_};
+ghost use lib.ListN.{length};
+ghost use Rattle.bestset.specs.Promise.{said};
+ghost use Rattle.listing.specs.Lines.{Shows};
+ghost use Rattle.report.specs.Report.{outcome, aggregatesOf, eligibleLine, lineOf, linesOf};
+ghost use Rattle.report.specs.Inner.{studentsIn, Few, Even, columns, Within, Put};
+use crate::students;
+use crate::writing;
+use bestset::Answer;
+use listing::writing::Line;
+
+// The line of the j-th of the eligible.
+fn eligible_line(
+    id: u32,
+    j: usize,
+    aggregates: &[u32],
+    ranks: &[u32],
+    percentiles: &[u32],
+    bands: &[u16],
+) -> Line
+    requires { ⌜ Even (columns (now aggregates) (now ranks) (now percentiles) (now bands)) × (j < length (now aggregates)) ⌝ }
+    ensures { λ r. ⌜ Shows r (eligibleLine (columns (now (aggregates .entry)) (now (ranks .entry)) (now (percentiles .entry)) (now (bands .entry))) j id) ⌝ }
+{
+    listing::student_line(id, aggregates[j], ranks[j], percentiles[j], bands[j])
+}
+
+// The line of the student who is, if eligible, the j-th of the eligible.
+fn line_of(
+    answer: Answer,
+    id: u32,
+    j: usize,
+    aggregates: &[u32],
+    ranks: &[u32],
+    percentiles: &[u32],
+    bands: &[u16],
+) -> Line
+    requires { ⌜ Even (columns (now aggregates) (now ranks) (now percentiles) (now bands)) × Within j (said answer) (length (now aggregates)) ⌝ }
+    ensures { λ r. ⌜ Shows r (lineOf (columns (now (aggregates .entry)) (now (ranks .entry)) (now (percentiles .entry)) (now (bands .entry))) j id (said answer)) ⌝ }
+{
+    match answer {
+        Answer::Accepted {
+            aggregate: _,
+            set: _,
+        } => { eligible_line(id, j, aggregates, ranks, percentiles, bands) }
+        Answer::Refused(x) => listing::refused_line(id, x),
+    }
+}
+
+// Puts the lines of all students into the text from a place on, and answers where they end.
+pub(crate) fn lines(
+    catalogue: &[u8],
+    table: &[u8],
+    year: u64,
+    students: usize,
+    ids: &[u32],
+    counts: &[u8],
+    results: &[u8],
+    aggregates: &[u32],
+    ranks: &[u32],
+    percentiles: &[u32],
+    bands: &[u16],
+    text: &mut [u8],
+    start: usize,
+) -> usize
+    requires { ⌜ Few students (now counts) (now results) × (students ≤ length (now ids)) × Even (columns (now aggregates) (now ranks) (now percentiles) (now bands))
+        × (now aggregates ≡ aggregatesOf (outcome (now catalogue) (now table) year) (studentsIn students (now ids) (now counts) (now results)))
+        × (start + 64 * students ≤ length (now text)) ⌝ }
+    ensures { λ r. ⌜ Put (now (text .entry)) (now (text .exit)) start r
+        (linesOf (outcome (now (catalogue .entry)) (now (table .entry)) year)
+        (columns (now (aggregates .entry)) (now (ranks .entry)) (now (percentiles .entry)) (now (bands .entry))) 0
+        (studentsIn students (now (ids .entry)) (now (counts .entry)) (now (results .entry)))) ⌝ }
+{
+    let mut i = 0;
+    let mut place = 0;
+    let mut j = 0;
+    let mut end = start;
+    while i < students {
+        let count = counts[i] as usize;
+        let answer = students::best_at(catalogue, table, year, results, place, count);
+        let line = line_of(answer, ids[i], j, aggregates, ranks, percentiles, bands);
+        end = writing::append(text, end, line);
+        j = students::after(answer, j);
+        place += 6 * count;
+        i += 1;
+    }
+    end
+}

@@ -1,0 +1,69 @@
+-- An example: what is asked of which entry, and the answer.
+use Prim.Native.Nat.{ℕ, _+_, _*_, _^_}
+use mathlib.Core.Path.{_≡_}
+use mathlib.Core.List.{List, [], _∷_, map}
+use lib.ListN.{length, getD}
+use Rattle.paper.specs.Rulings.{Outcome, accepted}
+use Rattle.bestset.specs.Counting.{Student}
+use Rattle.bestset.specs.Promise.{Promise as BestPromise, said as saidBest, Values as Best}
+use Rattle.bestset.specs.declared.Answer.{Answer as BestAnswer}
+use Rattle.curve.specs.Promise.{Promise as CurvePromise, said as saidCurve, Values as Population}
+use Rattle.curve.specs.declared.Answer.{Answer as CurveAnswer}
+use Rattle.curve.proofs.ByHand.{aged17}
+use Rattle.bands.specs.Promise.{said as saidBands}
+use Rattle.bands.specs.declared.Answer.{Answer as BandsAnswer}
+use Rattle.worked.specs.Called.{Rated, Placed}
+
+-- 360 · 00 is the paper's 360.00, in hundredths
+infix 90 _·_
+abbrev pub _·_ : ℕ → ℕ → ℕ
+whole · hundredths = 100 * whole + hundredths
+
+-- the set of some positions: bit i for result i
+abbrev pub setOf : List ℕ → ℕ
+setOf [] = 0
+setOf (i ∷ positions) = 2 ^ i + setOf positions
+
+-- accepted: the aggregate, and the positions of the set; Y and r
+abbrev pub chosen : ℕ → List ℕ → Outcome Best
+chosen aggregate positions = accepted (record { aggregate = aggregate; set = setOf positions })
+
+abbrev pub counted : ℕ → ℕ → Outcome Population
+counted Y r = accepted (record { population = Y; rate = r })
+
+-- Q17=10000 and E17=r, which give Y=10000 and the rate r
+abbrev pub atRate : ℕ → List ℕ
+atRate r = aged17 10000 r
+
+-- band k is ATAR 0.05k, in hundredths
+abbrev pub atarOf : ℕ → ℕ
+atarOf k = 5 * k
+
+infix 68 best-set_by_is_
+infix 68 figures_give_
+infix 68 rate_band_has_
+infix 68 aggregates_by_of_get_leaving_
+pub data Example : Type 0 where
+  -- the best set of a student, by a score table: the aggregate and the set, or the refusal
+  best-set_by_is_ : Student → List ℕ → Outcome Best → Example
+  -- ten figures give Y and r, or are refused
+  figures_give_ : List ℕ → Outcome Population → Example
+  -- at the rate r band k has this entry
+  rate_band_has_ : ℕ → ℕ → ℕ → Example
+  -- aggregates, by a participation table of Y, get these ATARs, in hundredths, leaving the remainder
+  aggregates_by_of_get_leaving_ : List ℕ → List ℕ → ℕ → List ℕ → ℕ → Example
+
+-- whatever meets the promise answers so
+abbrev pub Holds : Example → Type 0
+Holds (best-set s by table is o) = (r : BestAnswer) → BestPromise s table r → saidBest r ≡ o
+Holds (figures q give o) = (r : CurveAnswer) → Rated q r → saidCurve r ≡ o
+Holds (rate r band k has v) =
+    (a : CurveAnswer) (before after : List ℕ) → length before ≡ 2000 → CurvePromise (atRate r) before a after
+    → (saidCurve a ≡ counted 10000 r) × (getD after k 0 ≡ v)
+Holds (aggregates xs by table of Y get atars leaving n) =
+    (r : BandsAnswer) (bands : List ℕ) → Placed xs table Y r bands → (saidBands r ≡ accepted n) × (map atarOf bands ≡ atars)
+
+-- each example of a list
+abbrev pub All : List Example → Type 0
+All [] = Unit {0}
+All (e ∷ es) = Holds e × All es

@@ -1,0 +1,43 @@
+-- The paper's examples that are marked P.
+use Prim.Native.Nat.{ℕ}
+use mathlib.Core.List.{List, [], _∷_}
+use Rattle.paper.specs.Rulings.{refused, _at_}
+use Rattle.bestset.specs.Counting.{Student, student}
+use Rattle.bestset.proofs.ByHand.{seven, eight, nine, catalogue, table, result, catalogue2, table2, three}
+use Rattle.curve.proofs.ByHand.{aged17}
+use Rattle.bands.proofs.ByHand.{full}
+use Rattle.worked.specs.Example.{_·_, chosen, counted, Example, best-set_by_is_, figures_give_, rate_band_has_, aggregates_by_of_get_leaving_}
+
+-- student 11: 70, 90, 80, 75, Physics 40
+abbrev pub eleven : Student
+eleven = student catalogue (result 0 66 70 (result 1 66 90 (result 2 66 80 (result 3 66 75 (result 5 66 40 []))))) 2021
+
+-- six Generals at 50.00, one an English C
+abbrev pub six : Student
+six = student catalogue2 (result 0 67 50 (result 1 66 50 (three (result 8 66 50 [])))) 2021
+
+unfoldable pub examples : List Example
+examples =
+    -- students 7, 8, 9 and 11; six Generals
+    best-set seven by table is chosen (360 · 00) (0 ∷ 2 ∷ 3 ∷ 4 ∷ 5 ∷ [])
+    ∷ best-set eight by table is chosen (355 · 00) (0 ∷ 1 ∷ 2 ∷ 3 ∷ 5 ∷ [])
+    ∷ best-set nine by table is refused (8 at 0)
+    ∷ best-set eleven by table is chosen (355 · 00) (0 ∷ 1 ∷ 2 ∷ 3 ∷ 4 ∷ [])
+    ∷ best-set six by table2 is chosen (250 · 00) (0 ∷ 1 ∷ 2 ∷ 3 ∷ 4 ∷ [])
+    -- r=5000, r=2500 and r=7500
+    ∷ rate 5000 band 1 has 0
+    ∷ rate 5000 band 500 has 62500
+    ∷ rate 5000 band 1000 has 500000
+    ∷ rate 5000 band 1999 has 999999
+    ∷ rate 2500 band 1999 has 998500
+    ∷ rate 7500 band 0 has 0
+    ∷ rate 7500 band 1 has 1499
+    -- Y=100000
+    ∷ figures aged17 100000 24995 give counted 100000 2500
+    ∷ figures aged17 100000 24994 give refused (10 at 0)
+    ∷ figures aged17 100000 75004 give counted 100000 7500
+    ∷ figures aged17 100000 75005 give refused (10 at 0)
+    -- full table: Y=2000; Y=1, two different
+    ∷ aggregates 400 · 00 ∷ 400 · 00 ∷ 300 · 00 ∷ [] by full of 2000 get 99 · 90 ∷ 99 · 90 ∷ 99 · 85 ∷ [] leaving 0
+    ∷ aggregates 400 · 00 ∷ 300 · 00 ∷ [] by full of 1 get 0 · 00 ∷ 0 · 00 ∷ [] leaving 1
+    ∷ []

@@ -1,0 +1,1 @@
+// The worked examples of the paper, as one theorem.
