@@ -1,11 +1,18 @@
 /* Shtegomir: ATAR estimates for the Queensland subjects, proved by machine.
  *
- * What the proof assumes of the caller, for every function here:
- *   - a pointer is valid for as many elements as its length says, aligned for its type, and never NULL, not even with a length of 0;
- *   - what is lent to be written overlaps nothing else that is lent to the same call, and nothing else touches it while the call runs.
- * Nothing is kept after a call: all memory stays the caller's. Any bytes and any numbers may be given: a call always ends, and
- * what is wrong is refused with the number and the place of the office's table, and then nothing is written. All numbers in bytes
- * are big-endian; arrays of numbers are the machine's own.
+ * Any bytes and any numbers may be given: every call ends, and what is wrong is refused with a number and a place, by the rules
+ * that stand at each call, of which the first that is broken decides. A refused call writes nothing: every buffer is as it was.
+ *
+ * What the proof assumes of the caller, for every call:
+ *   - a pointer is aligned for its type, valid for as many elements as the length after it says (elements, not bytes), and
+ *     never NULL, not even with a length of 0;
+ *   - what is lent to be written, each pointer that is not const, overlaps nothing else that is lent to the same call;
+ *   - nothing else writes what is lent, or reads what is lent to be written, while the call runs.
+ *
+ * All memory is the caller's, before, during and after a call. Nothing is kept, nothing is allocated, and there is no state: calls
+ * over different buffers may run at once. Numbers in bytes are big-endian; arrays of numbers are the machine's own.
+ *
+ * Link with libcapi.a, for x86-64 Linux.
  */
 #ifndef SHTEGOMIR_H
 #define SHTEGOMIR_H
@@ -17,104 +24,171 @@
 extern "C" {
 #endif
 
-/* The numbers of refusals, and what the place is. */
+/* The numbers of refusals. */
 enum shtegomir_refusal {
     SHTEGOMIR_ACCEPTED = 0,
-    SHTEGOMIR_MALFORMED = 1,         /* bytes not whole: the number of whole entries or results */
-    SHTEGOMIR_TOO_MANY = 2,          /* over 64 subjects, 16 results, or the call's limit of students or values: the limit */
-    SHTEGOMIR_WRONG_SUBJECT = 3,     /* an entry outside its ranges, or a subject not in the catalogue: its index */
-    SHTEGOMIR_WRONG_RESULT = 4,      /* letter, number or year wrong for the kind: the result's index */
-    SHTEGOMIR_WRONG_SCORE = 5,       /* a usable result with a missing slot, or one over 10000: the result's index */
-    SHTEGOMIR_AGAIN = 6,             /* two usable results of one subject and year: the later one's index */
-    SHTEGOMIR_NO_ENGLISH = 7,        /* no English shown: 0 */
-    SHTEGOMIR_NO_SET = 8,            /* no admissible set: 0 */
-    SHTEGOMIR_WRONG_POPULATION = 9,  /* a figure over 1000000: its index; E or Y zero: 10; for bands Y zero or over 1000000: 0 */
-    SHTEGOMIR_WRONG_RATE = 10,       /* a rate outside 2500 to 7500: 0 */
-    SHTEGOMIR_WRONG_LENGTH = 11,     /* a table or buffer of another length than asked: 0 */
-    SHTEGOMIR_WRONG_AGGREGATE = 12,  /* an aggregate over 50000: its index */
-    SHTEGOMIR_WRONG_ENTRY = 13,      /* a participation entry over 1000000: its index */
-    SHTEGOMIR_WRONG_YEAR = 14        /* assessment year outside 1984 to 9999: 0 */
+    SHTEGOMIR_MALFORMED = 1,        /* bytes that are not whole entries or results */
+    SHTEGOMIR_TOO_MANY = 2,         /* more subjects, results, students or values than the call takes */
+    SHTEGOMIR_WRONG_SUBJECT = 3,    /* a catalogue entry outside its ranges, or a subject not in the catalogue */
+    SHTEGOMIR_WRONG_RESULT = 4,     /* a letter, number or year wrong for the kind */
+    SHTEGOMIR_WRONG_SCORE = 5,      /* a usable result whose slot is missing or over 10000 */
+    SHTEGOMIR_AGAIN = 6,            /* two usable results of one subject and year */
+    SHTEGOMIR_NO_ENGLISH = 7,       /* no English shown */
+    SHTEGOMIR_NO_SET = 8,           /* no admissible set */
+    SHTEGOMIR_WRONG_POPULATION = 9, /* a figure over 1000000, or a population that is zero or over 1000000 */
+    SHTEGOMIR_WRONG_RATE = 10,      /* a participation rate outside 0.25 to 0.75 */
+    SHTEGOMIR_WRONG_LENGTH = 11,    /* a table or buffer of another length than asked, longer ones too */
+    SHTEGOMIR_WRONG_AGGREGATE = 12, /* an aggregate over 50000 */
+    SHTEGOMIR_WRONG_ENTRY = 13,     /* a participation entry over 1000000 */
+    SHTEGOMIR_WRONG_YEAR = 14       /* an assessment year outside 1984 to 9999 */
 };
+
+/* ---- The best set of one student ---- */
 
 /* Accepted: refusal and place are 0. Refused: aggregate and set are 0. */
-struct shtegomir_best_set_answer {
-    uint64_t refusal;
-    uint64_t place;
+struct shtegomir_best {
+    uint64_t refusal, place;
     uint32_t aggregate; /* the sum of the five scores, in hundredths: 0 to 50000 */
-    uint16_t set;       /* bit i (value 1 << i) for result i */
+    uint16_t set;       /* bit i, of value 1 << i, for result i: five bits */
 };
 
-/* The best set of five results of one student.
+/* Finds the five results of a student that count for most.
  *
- *   catalogue  5 bytes to a subject, at most 64: kind, strand, level, identity (two)
- *   table      200 bytes to a subject, in the same order: 100 slots of two bytes, in hundredths, 0 to 10000; 65535 is missing
+ *   catalogue  5 bytes to a subject, at most 64 subjects:
+ *                kind      1 General, 2 General extension, 3 Senior External Examination, 4 Applied, 5 short course, 6 VET
+ *                strand    0 none, 1 English, 2 Mathematics; 0 for kinds 5 and 6
+ *                level     1 to 6 for VET, otherwise 0
+ *                identity  two bytes: 1 or more for kinds 1 and 3, otherwise 0
+ *   table      200 bytes to a subject, in the catalogue's order: 100 slots of two bytes, slot 1 first, in hundredths, 0 to 10000;
+ *              65535 is missing. Kinds 1 to 3 use the slot of their number, Applied A to E slots 90, 70, 50, 30, 10, VET slot 1.
+ *              A slot that no usable result uses may hold anything.
  *   year       the assessment year, 1984 to 9999
- *   results    6 bytes to a result, at most 16: subject (two, its place in the catalogue from 0), letter, number, year (two)
+ *   results    6 bytes to a result, at most 16 results:
+ *                subject   two bytes: its place in the catalogue, from 0
+ *                letter    'A' to 'E'; for VET 'Y' or 'N'
+ *                number    1 to 100 for kinds 1 to 3, otherwise 0
+ *                year      two bytes: 1980 to the assessment year
  *
- * Refused in this order: catalogue 1, 2, 3; table 11; year 14; results 1, 2; then for each result in turn 3, 4, 5; then 6, 7, 8.
- * Accepted: no admissible set has a greater sum, and of those with that sum the one whose positions come first is given.
+ * Accepted: an admissible set, such that none has a greater sum, and of those with that sum the one whose positions, in ascending
+ * order, come first in dictionary order. Nothing is written but the struct that is returned.
+ *
+ * Refused, in this order, at a place:
+ *    1  catalogue not whole entries: the number of whole ones
+ *    2  over 64 subjects: 64
+ *    3  an entry outside its ranges: its index
+ *   11  table not of 200 bytes to a subject: 0
+ *   14  year: 0
+ *    1  results not whole: the number of whole ones
+ *    2  over 16 results: 16
+ *       for each result in turn, at its index:
+ *    3  subject not in the catalogue
+ *    4  letter, number or year wrong for the kind
+ *    5  usable, with a slot that is missing or over 10000
+ *       of all results:
+ *    6  two usable of one subject and year: the index of the later one
+ *    7  no English: 0
+ *    8  no admissible set: 0
  */
-struct shtegomir_best_set_answer shtegomir_best_set(const uint8_t *catalogue, size_t catalogue_len,
-                                                    const uint8_t *table, size_t table_len,
-                                                    uint64_t year,
-                                                    const uint8_t *results, size_t results_len);
+struct shtegomir_best shtegomir_best_set(const uint8_t *catalogue, size_t catalogue_len, const uint8_t *table, size_t table_len,
+                                         uint32_t year, const uint8_t *results, size_t results_len);
+
+/* ---- The population and the participation curve ---- */
 
 /* Accepted: refusal and place are 0. Refused: population and rate are 0. */
-struct shtegomir_population_answer {
-    uint64_t refusal;
-    uint64_t place;
+struct shtegomir_curve {
+    uint64_t refusal, place;
     uint32_t population; /* Y, 1 to 1000000 */
     uint32_t rate;       /* r in ten-thousandths, 2500 to 7500 */
 };
 
-/* The potential population and the participation rate, from the ten figures Q16..Q20, E16..E20, each at most 1000000.
- * Refused in this order: 11 (not ten figures), 9, 10.
+/* Finds the potential population and the participation rate, and fills the participation table.
+ *
+ *   figures  ten: Q16 to Q20, then E16 to E20, each at most 1000000
+ *   table    lent to be written, 2000 entries: in entry k the share of band k, ATAR 0.05k, in millionths; whatever it held before
+ *
+ * Refused, in this order, at a place:
+ *   11  not ten figures, or not 2000 entries: 0
+ *    9  a figure over 1000000: its index; then E or Y zero: 10
+ *   10  r outside 2500 to 7500: 0
  */
-struct shtegomir_population_answer shtegomir_population(const uint32_t *figures, size_t figures_len);
+struct shtegomir_curve shtegomir_participation(const uint32_t *figures, size_t figures_len, uint32_t *table, size_t table_len);
 
-/* The same, and the participation table: 2000 entries in millionths are written, band 0 (ATAR 0.00) first.
- * Refused in this order: 11 (not 2000 entries, not ten figures), 9, 10.
- */
-struct shtegomir_population_answer shtegomir_curve(const uint32_t *figures, size_t figures_len, uint32_t *table, size_t table_len);
+/* ---- Ranks and percentiles ---- */
 
 /* Accepted: both are 0. */
-struct shtegomir_ranks_answer {
-    uint64_t refusal;
-    uint64_t place;
+struct shtegomir_ranked {
+    uint64_t refusal, place;
 };
 
-/* For each of up to 100000 values, any numbers, writes its rank (the number of values that are at most it) and its percentile (100 times rank
- * over the number of values, in thousandths, to the nearest, halves up). Both buffers have as many entries as there are values.
- * Refused in this order: 2, 11.
+/* Ranks up to 100000 values, any numbers.
+ *
+ *   ranks        lent to be written, as many as there are values: the number of values that are at most one's own
+ *   percentiles  lent to be written, as many: 100 times rank over the number of values, in thousandths, nearest, halves up
+ *
+ * Refused, in this order, at a place:
+ *    2  over 100000 values: 100000
+ *   11  either buffer not as long as the values: 0
  */
-struct shtegomir_ranks_answer shtegomir_ranks(const uint32_t *values, size_t values_len, uint32_t *ranks, size_t ranks_len,
-                                              uint32_t *percentiles, size_t percentiles_len);
+struct shtegomir_ranked shtegomir_rank(const uint32_t *values, size_t values_len, uint32_t *ranks, size_t ranks_len,
+                                       uint32_t *percentiles, size_t percentiles_len);
+
+/* ---- Bands ---- */
 
 /* Accepted: refusal and place are 0. Refused: the remainder is 0. */
-struct shtegomir_bands_answer {
-    uint64_t refusal;
-    uint64_t place;
-    uint64_t remainder; /* the students for whom there is no place in band 0 either */
+struct shtegomir_placed {
+    uint64_t refusal, place;
+    uint32_t remainder; /* the students for whom there is no place in band 0 either */
 };
 
-/* The band of each of up to 512 students, by direct count: the best that any placing gives that keeps order, ties and places.
+/* Places up to 512 students, by direct count: of all placings that keep order, ties and places the one that gives every student at
+ * once the best band.
  *
- *   aggregates  in hundredths, at most 50000
- *   table       2000 participation entries in millionths, each at most 1000000
+ *   aggregates  in hundredths, at most 50000; no student at all is fine too
+ *   table       2000 participation entries in millionths, each at most 1000000; they need not rise
  *   population  Y, 1 to 1000000
- *   bands       written: 0 to 1999, as many as there are students; band k is ATAR 0.05k
+ *   bands       lent to be written, as many as there are students: 0 to 1999, band k being ATAR 0.05k
  *
- * Refused in this order: 2, 11, 9, 13, 12.
+ * Refused, in this order, at a place:
+ *    2  over 512 students: 512
+ *   11  not 2000 entries, or bands not as many as aggregates: 0
+ *    9  population zero or over 1000000: 0
+ *   13  an entry over 1000000: its index
+ *   12  an aggregate over 50000: its index
  */
-struct shtegomir_bands_answer shtegomir_bands(const uint32_t *aggregates, size_t aggregates_len, const uint32_t *table,
-                                              size_t table_len, uint32_t population, uint16_t *bands, size_t bands_len);
+struct shtegomir_placed shtegomir_place_direct(const uint32_t *aggregates, size_t aggregates_len, const uint32_t *table,
+                                               size_t table_len, uint32_t population, uint16_t *bands, size_t bands_len);
 
-/* The same of up to 100000 students, with a buffer of 50001 counts. Whatever it held before, entry t then is the number of students
- * with aggregate t.
+/* The same for up to 100000 students, by tally. Where both calls accept they agree.
+ *
+ *   counts      lent to be written, 50001: in entry t the number of students with aggregate t; whatever it held before
+ *
+ * Refused as by direct count, but 2 over 100000 students: 100000; and 11 also if counts are not 50001.
  */
-struct shtegomir_bands_answer shtegomir_bands_by_tally(const uint32_t *aggregates, size_t aggregates_len, const uint32_t *table,
-                                                       size_t table_len, uint32_t population, uint32_t *counts,
-                                                       size_t counts_len, uint16_t *bands, size_t bands_len);
+struct shtegomir_placed shtegomir_place_tally(const uint32_t *aggregates, size_t aggregates_len, const uint32_t *table,
+                                              size_t table_len, uint32_t population, uint16_t *bands, size_t bands_len,
+                                              uint32_t *counts, size_t counts_len);
+
+/* ---- The listing of a cohort file ---- */
+
+/* Accepted: refusal and place are 0. Refused: the length is 0. */
+struct shtegomir_text {
+    uint64_t refusal, place;
+    uint64_t length; /* the bytes of the text */
+};
+
+/* Lists a cohort file: any bytes, of any number. What `estimate` prints for it.
+ *
+ *   text  lent to be written, 65536 bytes: the listing stands in front, every line ended by a line feed, without a 0 at the end;
+ *         the rest is as it was. Every listing fits.
+ *
+ * A file that is refused is an accepted call: its text is the line `refused`, number, place.
+ *
+ * Refused, at a place:
+ *   11  text not of 65536 bytes: 0
+ *
+ * It takes about 140 kilobytes of stack.
+ */
+struct shtegomir_text shtegomir_report(const uint8_t *file, size_t file_len, uint8_t *text, size_t text_len);
 
 #ifdef __cplusplus
 }

@@ -4,22 +4,29 @@
 library=target/staticlib/libcapi.a
 warnings='-std=c99 -D_POSIX_C_SOURCE=199309L -Wall -Wextra -Werror -Iinclude'
 
-# build_c SOURCE PROGRAM
+# build_c PROGRAM SOURCE..
 build_c() {
-    mkdir -p "$(dirname "$2")" || return 1
+    program=$1
+    shift
+    mkdir -p "$(dirname "$program")" || return 1
     case $(uname -m) in
         x86_64)
             # shellcheck disable=SC2086
-            cc $warnings -O2 "$1" "$library" -o "$2"
+            cc $warnings -O3 "$@" "$library" -o "$program"
             ;;
         aarch64)
             tools=$(dirname "$(dirname "$(rt doc)")")/on/aarch64/toolchain
-            # shellcheck disable=SC2086
-            clang --target=x86_64-linux-gnu -I/usr/include/aarch64-linux-gnu $warnings -O2 -fPIE -c "$1" -o "$2.o" &&
-                "$tools/bin/ld.lld" -pie -o "$2" --dynamic-linker /lib64/ld-linux-x86-64.so.2 \
-                    "$tools/lib/Scrt1.o" "$tools/lib/crti.o" "$tools/lib/crtbeginS.o" "$2.o" "$library" \
-                    "$tools/lib/libc.so.6" "$tools/lib/libc_nonshared.a" "$tools/lib/libgcc.a" \
-                    "$tools/lib/crtendS.o" "$tools/lib/crtn.o"
+            objects=()
+            for source in "$@"; do
+                object=$program-$(basename "$source" .c).o
+                # shellcheck disable=SC2086
+                clang --target=x86_64-linux-gnu -I/usr/include/aarch64-linux-gnu $warnings -O3 -fPIE -c "$source" -o "$object" || return 1
+                objects+=("$object")
+            done
+            "$tools/bin/ld.lld" -pie -o "$program" --dynamic-linker /lib64/ld-linux-x86-64.so.2 \
+                "$tools/lib/Scrt1.o" "$tools/lib/crti.o" "$tools/lib/crtbeginS.o" "${objects[@]}" "$library" \
+                "$tools/lib/libc.so.6" "$tools/lib/libc_nonshared.a" "$tools/lib/libgcc.a" \
+                "$tools/lib/crtendS.o" "$tools/lib/crtn.o"
             ;;
         *)
             printf 'no way to build C here: the machine is %s\n' "$(uname -m)"
@@ -28,13 +35,13 @@ build_c() {
     esac
 }
 
-# run_c PROGRAM
+# run_c PROGRAM ARGUMENT..
 run_c() {
     case $(uname -m) in
-        x86_64) "$1" ;;
+        x86_64) "$@" ;;
         *)
             tools=$(dirname "$(dirname "$(rt doc)")")/on/aarch64/toolchain
-            "$tools/bin/qemu-x86_64" "$tools/lib/ld-linux-x86-64.so.2" --library-path "$tools/lib" "$1"
+            "$tools/bin/qemu-x86_64" "$tools/lib/ld-linux-x86-64.so.2" --library-path "$tools/lib" "$@"
             ;;
     esac
 }

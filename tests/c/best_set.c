@@ -48,7 +48,7 @@ static void add(struct results *r, int subject, char letter, int number)
     r->length += 6;
 }
 
-static void expect(const char *what, struct shtegomir_best_set_answer a, uint64_t refusal, uint64_t place, uint32_t aggregate,
+static void expect(const char *what, struct shtegomir_best a, uint64_t refusal, uint64_t place, uint32_t aggregate,
                    uint16_t set)
 {
     if (a.refusal == refusal && a.place == place && a.aggregate == aggregate && a.set == set)
@@ -59,7 +59,7 @@ static void expect(const char *what, struct shtegomir_best_set_answer a, uint64_
            (unsigned long long)refusal, (unsigned long long)place, (unsigned long)aggregate, (unsigned)set);
 }
 
-static struct shtegomir_best_set_answer ask(const struct results *r, uint64_t year)
+static struct shtegomir_best ask(const struct results *r, uint32_t year)
 {
     return shtegomir_best_set(catalogue, sizeof catalogue, table, sizeof table, year, r->bytes, r->length);
 }

@@ -1,18 +1,15 @@
-/* Times each entry against a plain C program that does the same job, in one run, and holds what both give to each other. */
+/* Times each entry against plain C that does the same job (plain.h), in one run, and holds what both give to each other. Prints a
+ * table. The two take turns, and the least time of each counts. Buffers are not cleared between calls: they hold what the call
+ * before left; what a call clears itself is in its time.
+ */
 #include <stdio.h>
-#include <stdlib.h>
 #include <string.h>
 #include <time.h>
 
-#include "shtegomir.h"
+#include "plain.h"
 
-enum { STUDENTS = 100000, RUNS = 9 };
+enum { MOST = 100000, BANDS = 2000, COUNTS = 50001, SUBJECTS = 16, STUDENTS = 64, TURNS = 25 };
 
-static uint32_t values[STUDENTS], table[2000], figures[10] = {0, 100000, 0, 0, 0, 0, 50000, 0, 0, 0};
-static uint32_t ranks_proved[STUDENTS], ranks_plain[STUDENTS], percent_proved[STUDENTS], percent_plain[STUDENTS];
-static uint32_t counts_proved[50001], counts_plain[50001], sorted[STUDENTS], table_plain[2000];
-static uint16_t bands_proved[STUDENTS], bands_plain[STUDENTS];
-static uint8_t catalogue[5 * 16], scores[200 * 16], results[6 * 16];
 static uint64_t seed = 1;
 static int differ;
 
@@ -22,147 +19,54 @@ static uint32_t next(uint32_t below)
     return (uint32_t)((seed >> 33) % below);
 }
 
+/* ---- Time ---- */
+
 static double now(void)
 {
     struct timespec t;
     clock_gettime(CLOCK_MONOTONIC, &t);
-    return t.tv_sec * 1e3 + t.tv_nsec / 1e6;
+    return (double)t.tv_sec * 1e6 + (double)t.tv_nsec / 1e3;
 }
 
-/* the best of some runs, in milliseconds */
-static double best(void (*job)(void), int times)
+/* in microseconds */
+static double took(void (*job)(void), int times)
 {
-    double least = 1e30;
-    for (int run = 0; run < RUNS; run++) {
-        double start = now();
-        for (int i = 0; i < times; i++)
-            job();
-        double took = (now() - start) / times;
-        if (took < least)
-            least = took;
+    double start = now();
+    for (int i = 0; i < times; i++)
+        job();
+    return (now() - start) / times;
+}
+
+static void print_time(double time)
+{
+    if (time < 1000)
+        printf(" %.*f us |", time < 10 ? 2 : 1, time);
+    else
+        printf(" %.2f ms |", time / 1000);
+}
+
+/* One row: the job does `each` units; growth is over the last row of the same job. */
+static void race(const char *job, size_t size, void (*proved)(void), void (*plain)(void), int each)
+{
+    static const char *last_job;
+    static double last;
+    double a = took(proved, 1), b = took(plain, 1), longer = a > b ? a : b;
+    int times = longer > 3000 ? 1 : (int)(3000 / longer) + 1;
+    for (int turn = 0; turn < TURNS; turn++) {
+        double x = took(proved, times), y = took(plain, times);
+        a = x < a ? x : a;
+        b = y < b ? y : b;
     }
-    return least;
-}
-
-static int rising(const void *a, const void *b)
-{
-    uint32_t x = *(const uint32_t *)a, y = *(const uint32_t *)b;
-    return (x > y) - (x < y);
-}
-
-static void ranks_by_proof(void) { shtegomir_ranks(values, STUDENTS, ranks_proved, STUDENTS, percent_proved, STUDENTS); }
-
-/* sorted by the C library, and searched for each value */
-static void ranks_by_c(void)
-{
-    memcpy(sorted, values, sizeof sorted);
-    qsort(sorted, STUDENTS, sizeof *sorted, rising);
-    for (int i = 0; i < STUDENTS; i++) {
-        int low = 0, high = STUDENTS;
-        while (low < high) {
-            int middle = low + (high - low) / 2;
-            if (sorted[middle] <= values[i])
-                low = middle + 1;
-            else
-                high = middle;
-        }
-        ranks_plain[i] = (uint32_t)low;
-        percent_plain[i] = (uint32_t)((200000ull * (uint64_t)low + STUDENTS) / (2ull * STUDENTS));
-    }
-}
-
-static void bands_by_proof(void)
-{
-    shtegomir_bands_by_tally(values, STUDENTS, table, 2000, 100000, counts_proved, 50001, bands_proved, STUDENTS);
-}
-
-/* the same passes: count, sum from the top, one walk down, read, count again */
-static void bands_by_c(void)
-{
-    uint64_t sum = table[1999];
-    int band = 1999;
-    memset(counts_plain, 0, sizeof counts_plain);
-    for (int i = 0; i < STUDENTS; i++)
-        counts_plain[values[i]]++;
-    for (int t = 49999; t >= 0; t--)
-        counts_plain[t] += counts_plain[t + 1];
-    for (int t = 50000; t >= 0; t--) {
-        while (band > 0 && 2000000000ull * counts_plain[t] > 100000ull * sum)
-            sum += table[--band];
-        counts_plain[t] = (uint32_t)band;
-    }
-    for (int i = 0; i < STUDENTS; i++)
-        bands_plain[i] = (uint16_t)counts_plain[values[i]];
-    memset(counts_plain, 0, sizeof counts_plain);
-    for (int i = 0; i < STUDENTS; i++)
-        counts_plain[values[i]]++;
-}
-
-static void curve_by_proof(void) { shtegomir_curve(figures, 10, table, 2000); }
-
-static void curve_by_c(void)
-{
-    uint64_t s = 0, e = 0;
-    for (int i = 0; i < 5; i++) {
-        s += (uint64_t)figures[i] * figures[i + 5];
-        e += figures[i + 5];
-    }
-    uint64_t y = (2 * s + e) / (2 * e), r = (20000 * e + y) / (2 * y), a = 15000 - 2 * r, d = 10000 - a;
-    for (uint64_t k = 0; k < 2000; k++) {
-        uint64_t m = 2000 - k;
-        table_plain[k] = (uint32_t)(a > 0 && 5 * k <= a ? 12500 * k * k * k / (a * a) : (1000000 * d * d - 12500 * m * m * m) / (d * d));
-    }
-}
-
-static struct shtegomir_best_set_answer set_proved;
-static uint32_t total_plain, set_plain;
-
-static void set_by_proof(void)
-{
-    set_proved = shtegomir_best_set(catalogue, sizeof catalogue, scores, sizeof scores, 2021, results, sizeof results);
-}
-
-static uint32_t score_of(int i) { return (uint32_t)scores[200 * i + 2 * (results[6 * i + 3] - 1)] * 256 + scores[200 * i + 2 * (results[6 * i + 3] - 1) + 1]; }
-
-/* all fives of sixteen Generals, in dictionary order */
-static void set_by_c(void)
-{
-    uint32_t score[16];
-    total_plain = set_plain = 0;
-    for (int i = 0; i < 16; i++)
-        score[i] = score_of(i);
-    for (int a = 0; a < 12; a++)
-        for (int b = a + 1; b < 13; b++)
-            for (int c = b + 1; c < 14; c++)
-                for (int d = c + 1; d < 15; d++)
-                    for (int e = d + 1; e < 16; e++) {
-                        uint32_t sum = score[a] + score[b] + score[c] + score[d] + score[e];
-                        if (sum > total_plain) {
-                            total_plain = sum;
-                            set_plain = 1u << a | 1u << b | 1u << c | 1u << d | 1u << e;
-                        }
-                    }
-}
-
-static void prepare(void)
-{
-    for (int i = 0; i < STUDENTS; i++)
-        values[i] = next(50001);
-    for (int i = 0; i < 16; i++) {
-        uint8_t entry[5] = {1, i == 0, 0, 0, (uint8_t)(i + 1)}, result[6] = {0, (uint8_t)i, 'B', (uint8_t)(1 + next(100)), 2021 / 256, 2021 % 256};
-        memcpy(catalogue + 5 * i, entry, 5);
-        memcpy(results + 6 * i, result, 6);
-        for (int slot = 0; slot < 100; slot++) {
-            uint32_t score = next(10001);
-            scores[200 * i + 2 * slot] = (uint8_t)(score / 256);
-            scores[200 * i + 2 * slot + 1] = (uint8_t)(score % 256);
-        }
-    }
-}
-
-static void row(const char *job, double proved, double plain, const char *unit)
-{
-    printf("| %s | %.3f %s | %.3f %s | %.2f |\n", job, proved, unit, plain, unit, proved / plain);
+    printf("| %s | %zu |", job, size);
+    print_time(a / each);
+    print_time(b / each);
+    printf(" %.2f |", a / b);
+    if (last_job == job)
+        printf(" %.1f |\n", a / each / last);
+    else
+        printf(" |\n");
+    last_job = job;
+    last = a / each;
 }
 
 static void same(const char *what, const void *a, const void *b, size_t size)
@@ -170,29 +74,236 @@ static void same(const char *what, const void *a, const void *b, size_t size)
     if (memcmp(a, b, size) == 0)
         return;
     differ = 1;
-    printf("%s: the two programs differ\n", what);
+    printf("%s: the two differ\n", what);
+}
+
+/* ---- The best set ---- */
+
+/* English, two of Mathematics, ten more Generals, an external examination of one of these, an Applied of Mathematics, a Certificate III. */
+static uint8_t catalogue[5 * SUBJECTS], scores[200 * SUBJECTS], results[STUDENTS][6 * 16];
+static size_t results_len;
+static struct shtegomir_best sets[STUDENTS], sets_plain[STUDENTS];
+
+static void make_catalogue(void)
+{
+    for (int i = 0; i < SUBJECTS; i++) {
+        const uint8_t general[5] = {1, (uint8_t)(i == 0 ? 1 : i <= 2 ? 2 : 0), 0, 0, (uint8_t)(i + 1)};
+        memcpy(catalogue + 5 * i, general, 5);
+        for (int slot = 0; slot < 100; slot++) {
+            uint32_t score = next(10001);
+            scores[200 * i + 2 * slot] = (uint8_t)(score >> 8);
+            scores[200 * i + 2 * slot + 1] = (uint8_t)score;
+        }
+    }
+    memcpy(catalogue + 5 * 13, (const uint8_t[]){3, 0, 0, 0, 5, 4, 2, 0, 0, 0, 6, 0, 3, 0, 0}, 15);
+}
+
+/* English first, then other subjects by chance. */
+static void make_students(size_t count)
+{
+    results_len = 6 * count;
+    for (int s = 0; s < STUDENTS; s++) {
+        uint8_t order[SUBJECTS];
+        for (int i = 0; i < SUBJECTS; i++)
+            order[i] = (uint8_t)i;
+        for (int i = SUBJECTS - 1; i > 1; i--) {
+            uint32_t j = 1 + next((uint32_t)i);
+            uint8_t moved = order[i];
+            order[i] = order[j];
+            order[j] = moved;
+        }
+        for (size_t i = 0; i < count; i++) {
+            unsigned kind = catalogue[5 * order[i]];
+            const uint8_t result[6] = {0, order[i], (uint8_t)(kind == 6 ? 'Y' : 'A' + next(3)), (uint8_t)(kind > 3 ? 0 : 1 + next(100)), 2021 / 256, 2021 % 256};
+            memcpy(results[s] + 6 * i, result, 6);
+        }
+    }
+}
+
+static void sets_by_proof(void)
+{
+    for (int s = 0; s < STUDENTS; s++)
+        sets[s] = shtegomir_best_set(catalogue, sizeof catalogue, scores, sizeof scores, 2021, results[s], results_len);
+}
+
+static void sets_by_c(void)
+{
+    for (int s = 0; s < STUDENTS; s++)
+        sets_plain[s] = plain_best_set(catalogue, sizeof catalogue, scores, sizeof scores, 2021, results[s], results_len);
+}
+
+static void race_best_sets(void)
+{
+    make_catalogue();
+    for (int i = 0; i < 4; i++) {
+        make_students((const size_t[]){5, 8, 12, 16}[i]);
+        race("best set, results", results_len / 6, sets_by_proof, sets_by_c, STUDENTS);
+        for (int s = 0; s < STUDENTS; s++) {
+            same("refusals", &sets[s].refusal, &sets_plain[s].refusal, sizeof sets[s].refusal);
+            same("aggregates", &sets[s].aggregate, &sets_plain[s].aggregate, sizeof sets[s].aggregate);
+            same("sets", &sets[s].set, &sets_plain[s].set, sizeof sets[s].set);
+        }
+    }
+}
+
+/* ---- The curve ---- */
+
+static const uint32_t figures[10] = {0, 100000, 0, 0, 0, 0, 50000, 0, 0, 0};
+static uint32_t table[BANDS], table_plain[BANDS];
+
+static void curve_by_proof(void)
+{
+    shtegomir_participation(figures, 10, table, BANDS);
+}
+
+static void curve_by_c(void)
+{
+    plain_participation(figures, 10, table_plain, BANDS);
+}
+
+static void race_curve(void)
+{
+    race("curve, entries", BANDS, curve_by_proof, curve_by_c, 1);
+    same("curve", table, table_plain, sizeof table);
+}
+
+/* ---- Ranks and bands ---- */
+
+static uint32_t values[MOST], ranks[MOST], ranks_plain[MOST], percentiles[MOST], percentiles_plain[MOST];
+static uint32_t counts[COUNTS], counts_plain[COUNTS];
+static uint16_t bands[MOST], bands_plain[MOST];
+static size_t count;
+
+static void ranks_by_proof(void)
+{
+    shtegomir_rank(values, count, ranks, count, percentiles, count);
+}
+
+static void ranks_by_c(void)
+{
+    plain_rank(values, count, ranks_plain, count, percentiles_plain, count);
+}
+
+static void direct_by_proof(void)
+{
+    shtegomir_place_direct(values, count, table, BANDS, 100000, bands, count);
+}
+
+static void direct_by_c(void)
+{
+    plain_place_direct(values, count, table, BANDS, 100000, bands_plain, count);
+}
+
+static void tally_by_proof(void)
+{
+    shtegomir_place_tally(values, count, table, BANDS, 100000, bands, count, counts, COUNTS);
+}
+
+static void tally_by_c(void)
+{
+    plain_place_tally(values, count, table, BANDS, 100000, bands_plain, count, counts_plain, COUNTS);
+}
+
+static void race_cohorts(void)
+{
+    static const size_t sizes[] = {1000, 10000, 100000}, direct[] = {64, 512};
+    for (size_t i = 0; i < MOST; i++)
+        values[i] = next(COUNTS);
+    for (int i = 0; i < 3; i++) {
+        count = sizes[i];
+        race("ranks, values", count, ranks_by_proof, ranks_by_c, 1);
+        same("ranks", ranks, ranks_plain, count * sizeof *ranks);
+        same("percentiles", percentiles, percentiles_plain, count * sizeof *percentiles);
+    }
+    for (int i = 0; i < 2; i++) {
+        count = direct[i];
+        race("bands by direct count, students", count, direct_by_proof, direct_by_c, 1);
+        same("bands", bands, bands_plain, count * sizeof *bands);
+    }
+    for (int i = 0; i < 3; i++) {
+        count = sizes[i];
+        race("bands by tally, students", count, tally_by_proof, tally_by_c, 1);
+        same("bands", bands, bands_plain, count * sizeof *bands);
+        same("counts", counts, counts_plain, sizeof counts);
+    }
+}
+
+/* ---- The report ---- */
+
+static uint8_t file[65536], text[65536], text_plain[65536];
+static size_t file_len;
+
+static void report_by_proof(void)
+{
+    shtegomir_report(file, file_len, text, sizeof text);
+}
+
+static void report_by_c(void)
+{
+    plain_report(file, file_len, text_plain, sizeof text_plain);
+}
+
+static void add_field(unsigned tag, unsigned length, const uint8_t *value)
+{
+    file[file_len++] = (uint8_t)tag;
+    file[file_len++] = 0;
+    file[file_len++] = (uint8_t)length;
+    memcpy(file + file_len, value, length);
+    file_len += length;
+}
+
+/* The catalogue of the best sets, a score for each slot that a result uses, and as many students of sixteen results as fit. */
+static size_t make_full_file(void)
+{
+    static const uint8_t year[2] = {2021 / 256, 2021 % 256}, q_and_e[40] = {[6] = 700 / 256, 700 % 256, [26] = 500 / 256, 500 % 256};
+    static uint8_t given[SUBJECTS][101];
+    size_t students = 0;
+    file_len = 0;
+    add_field(1, 2, year);
+    for (int i = 0; i < SUBJECTS; i++)
+        add_field(2, 5, catalogue + 5 * i);
+    for (int s = 0; s < STUDENTS; s++)
+        for (size_t i = 0; i < 16; i++) {
+            uint8_t *result = results[s] + 6 * i, kind = catalogue[5 * result[1]];
+            if (kind <= 3)
+                result[3] = (uint8_t)(10 * (1 + next(5)));
+            unsigned slot = kind <= 3 ? result[3] : kind == 4 ? 90 - 20 * (result[2] - 'A') : 1;
+            const uint8_t *score = scores + 200 * result[1] + 2 * (slot - 1);
+            if (given[result[1]][slot]++ == 0)
+                add_field(3, 5, (const uint8_t[]){0, result[1], (uint8_t)slot, score[0], score[1]});
+        }
+    add_field(4, 40, q_and_e);
+    for (; file_len + 7 + 9 * 16 <= sizeof file; students++) {
+        add_field(5, 4, (const uint8_t[]){0, 0, (uint8_t)(students >> 8), (uint8_t)students});
+        for (size_t i = 0; i < 16; i++)
+            add_field(6, 6, results[students % STUDENTS] + 6 * i);
+    }
+    return students;
+}
+
+static void race_report(const char *job, size_t students)
+{
+    race(job, students, report_by_proof, report_by_c, 1);
+    same("report", text, text_plain, sizeof text);
+}
+
+static void race_reports(void)
+{
+    FILE *source = fopen("tests/cohorts/students-512.cohort", "rb");
+    file_len = source == NULL ? 0 : fread(file, 1, sizeof file, source);
+    if (source == NULL || fclose(source) != 0)
+        differ = 1;
+    race_report("report, students of 5 results", 512);
+    make_students(16);
+    race_report("report, students of 16 results", make_full_file());
 }
 
 int main(void)
 {
-    prepare();
-    printf("| job | proved | plain C | ratio |\n|---|---|---|---|\n");
-    double proved = best(curve_by_proof, 100), plain = best(curve_by_c, 100);
-    row("the curve's table of 2000", proved * 1e3, plain * 1e3, "us");
-    proved = best(set_by_proof, 100), plain = best(set_by_c, 100);
-    row("the best set of 16 results", proved * 1e3, plain * 1e3, "us");
-    proved = best(ranks_by_proof, 1), plain = best(ranks_by_c, 1);
-    row("ranks of 100000 values", proved, plain, "ms");
-    proved = best(bands_by_proof, 1), plain = best(bands_by_c, 1);
-    row("bands of 100000 students by tally", proved, plain, "ms");
-    same("the curve", table, table_plain, sizeof table);
-    same("ranks", ranks_proved, ranks_plain, sizeof ranks_plain);
-    same("percentiles", percent_proved, percent_plain, sizeof percent_plain);
-    same("bands", bands_proved, bands_plain, sizeof bands_plain);
-    same("counts", counts_proved, counts_plain, sizeof counts_plain);
-    if (set_proved.aggregate != total_plain || set_proved.set != set_plain) {
-        differ = 1;
-        printf("the best set: the two programs differ\n");
-    }
+    printf("| job | size | proved | plain C | ratio | growth |\n|---|---|---|---|---|---|\n");
+    race_best_sets();
+    race_curve();
+    race_cohorts();
+    race_reports();
     return differ;
 }

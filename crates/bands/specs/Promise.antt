@@ -21,9 +21,9 @@ said (Refused x) = refused (fault x)
 -- 2: over the entry's limit; 11: a lent buffer or the table of another length; 9: Y zero or over 1000000, at 0;
 -- 13: an entry over 1000000; 12: an aggregate over 50000
 abbrev pub bandRules : ℕ → Bool → List ℕ → List ℕ → ℕ → List Rule
-bandRules most lengthsFit aggregates table Y =
+bandRules most fit aggregates table Y =
     ltb most (length aggregates) ⇒ 2 at most
-    ∷ not lengthsFit ⇒ 11 at 0
+    ∷ not fit ⇒ 11 at 0
     ∷ eqb Y 0 ⇒ 9 at 0
     ∷ ltb 1000000 Y ⇒ 9 at 0
     ∷ someOver 1000000 table ⇒ 13 at firstOver 1000000 table

@@ -17,7 +17,7 @@ use Rattle.paper.proofs.Ruled.{Kept, all-kept, kept-parts, kept-turns, after-ke
 use Rattle.subjects.specs.Catalogue.{subjects, isIdentified, catalogueRules}
 use Rattle.subjects.proofs.Promised.{kept-sound}
 use Rattle.paper.proofs.Booleans.{both-true, true-both}
-use Rattle.bestset.specs.Sets.{In, has, joined as inFront, from, positions, sumOver, countOver}
+use Rattle.bestset.specs.Sets.{In, has, joined as inFront, onesFrom, positions, sumOver, countOver}
 use Rattle.bestset.specs.Results.{held, subjectOf, kindOf, identityOf}
 use Rattle.bestset.specs.Reading.{score, identity}
 use Rattle.bestset.specs.Counting.{Student, general, applied, ofStrand, usable, english, later, kept}
@@ -25,7 +25,7 @@ use Rattle.bestset.specs.Admissible.{NotBoth, OneEach, Admissible}
 use Rattle.bestset.specs.Rules.{resultRules, lengthRules, repeatRule, studentRules}
 use Rattle.bestset.specs.Promise.{Values, said, WellFormed, ruling, Answered, Owed, Promise}
 use Rattle.bestset.specs.Masked.{Apart, Distinct, Allowed, Holds, Answers}
-use Rattle.bestset.specs.Screening.{Sorted}
+use Rattle.bestset.specs.Screening.{Masked}
 use Rattle.bestset.specs.declared.Answer.{Answer}
 use Rattle.bestset.specs.declared.Answer.the-variants.{Refused}
 use Rattle.bestset.specs.declared.search.Masks.{Masks}
@@ -43,10 +43,10 @@ module _ (f g : ℕ → ℕ) where
   same-front zero i l e h = h
   same-front (suc d) i l e h = ap₂ (λ (x y : ℕ). x + y) e h
 
-  pub same-sum : (k i n : ℕ) → ((j : ℕ) → j < i + k → f j ≡ g j) → sumOver f (from k i n) ≡ sumOver g (from k i n)
-  unfolding from sumOver
+  pub same-sum : (k i n : ℕ) → ((j : ℕ) → j < i + k → f j ≡ g j) → sumOver f (onesFrom k i n) ≡ sumOver g (onesFrom k i n)
+  unfolding onesFrom sumOver
   same-sum zero i n h = refl
-  same-sum (suc k) i n h = same-front (n % 2) i (from k (suc i) (n / 2)) (h i (omega arith)) (same-sum k (suc i) (n / 2) (λ j l. h j (omega arith)))
+  same-sum (suc k) i n h = same-front (n % 2) i (onesFrom k (suc i) (n / 2)) (h i (omega arith)) (same-sum k (suc i) (n / 2) (λ j l. h j (omega arith)))
 
 -- a mask holds the results of a test: as many members of a set are in the mask as have the test
 module _ (f : ℕ → Bool) (mask : ℕ) (h : Holds (λ i. f i ≡ true) mask) where
@@ -127,7 +127,7 @@ each-distinct s set d i j l p q =
 
 -- ---- the admissible sets
 
-module _ (s : Student) (masks : Masks) (m : Sorted s masks) where
+module _ (s : Student) (masks : Masks) (m : Masked s masks) where
   pub allowed-admissible : (table : List ℕ) → WellFormed s table → (set : ℕ) → Allowed masks (identity (s .catalogue) (s .results)) set → Admissible s set
   allowed-admissible table w set a =
       let each : (i : ℕ) → In i set → kept s i ≡ true = λ i p. m .kept-is .sound i (a .kept i p) in
@@ -168,7 +168,7 @@ module _ (s : Student) (table : List ℕ) where
   best-answered Nothing n = (refl, n)
 
   -- is what a well-formed student with English shown is owed
-  pub found-answered : WellFormed s table → (masks : Masks) → Sorted s masks → (b : Best)
+  pub found-answered : WellFormed s table → (masks : Masks) → Masked s masks → (b : Best)
       → Answers (Allowed masks (identity (s .catalogue) (s .results))) (score (s .catalogue) table (s .results)) b → Answered s table (outcome b)
   found-answered w masks m b a =
       best-answered b

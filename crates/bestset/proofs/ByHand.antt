@@ -9,7 +9,7 @@ use Rattle.paper.specs.Bytes.{word}
 use Rattle.paper.specs.Rulings.{Outcome, accepted, refused, _at_, inTurn}
 use Rattle.subjects.specs.Catalogue.{outside}
 use Rattle.subjects.specs.Scores.{found, slotOf}
-use Rattle.bestset.specs.Sets.{from, sumOver, countOver}
+use Rattle.bestset.specs.Sets.{onesFrom, sumOver, countOver}
 use Rattle.bestset.specs.Reading.{scoreFound, score}
 use Rattle.bestset.specs.Counting.{Student, student, usable, english, kept}
 use Rattle.bestset.specs.Rules.{wrong, unscored, repeated}
@@ -73,7 +73,7 @@ nine = student catalogue (with 70 60 80 75 []) 2021
 
 -- student 7 without Methods, 8 without Essential Mathematics, 9 without a set
 pub students : (computed seven table ≡ gives 36000 61) × (computed eight table ≡ gives 35500 47) × (computed nine table ≡ refused (8 at 0))
-unfolding slots first word inTurn outside found slotOf from sumOver countOver scoreFound score usable english kept wrong unscored repeated admissible earlier chosen
+unfolding slots first word inTurn outside found slotOf onesFrom sumOver countOver scoreFound score usable english kept wrong unscored repeated admissible earlier chosen
 students = (refl, refl, refl)
 
 -- English, Biology, its external examination, Chemistry, Physics, Geography, a Certificate III, a Certificate II, and History
@@ -115,7 +115,7 @@ best results = computed (student catalogue2 results 2021) table2
 
 -- six Generals at 50.00, one an English C: positions 0 to 4
 pub generals : best (result 0 67 50 (result 1 66 50 (three (result 8 66 50 [])))) ≡ gives 25000 31
-unfolding slots first word inTurn outside found slotOf from sumOver countOver scoreFound score usable english kept wrong unscored repeated admissible earlier chosen
+unfolding slots first word inTurn outside found slotOf onesFrom sumOver countOver scoreFound score usable english kept wrong unscored repeated admissible earlier chosen
 generals = refl
 
 -- English 10, and five better Generals: it needn't be in the five
@@ -123,7 +123,7 @@ abbrev pub english10 : List ℕ
 english10 = result 0 67 10 (result 1 66 50 (three (result 8 66 50 [])))
 
 pub outside-five : best english10 ≡ gives 25000 62
-unfolding slots first word inTurn outside found slotOf from sumOver countOver scoreFound score usable english kept wrong unscored repeated admissible earlier chosen
+unfolding slots first word inTurn outside found slotOf onesFrom sumOver countOver scoreFound score usable english kept wrong unscored repeated admissible earlier chosen
 outside-five = refl
 
 -- a subject with its external examination: one of the two; a D is no pass; 2017 counts and 2016 does not; the later of two results of a
@@ -136,7 +136,7 @@ pub rules : (best (result 0 66 50 (result 1 66 90 (result 2 66 95 (three [])))) 
     × (best (dated 0 67 90 2020 (result 0 68 50 (result 1 66 40 (three [])))) ≡ gives 24000 62)
     × (best (result 0 67 50 (result 6 89 0 (three []))) ≡ gives 27000 31)
     × (best (result 0 67 50 (result 7 89 0 (three []))) ≡ refused (8 at 0))
-unfolding slots first word inTurn outside found slotOf from sumOver countOver scoreFound score usable english kept wrong unscored repeated admissible earlier chosen
+unfolding slots first word inTurn outside found slotOf onesFrom sumOver countOver scoreFound score usable english kept wrong unscored repeated admissible earlier chosen
 rules = (refl, refl, refl, refl, refl, refl, refl, refl)
 
 -- 1 of the catalogue before all else; 11 before 14; 14 before the results' 1; 2 at 16; of two results 3, 4, 5 in turn; 6 at the later one
@@ -146,7 +146,7 @@ pub refusals : (computed (student (0 ∷ []) [] 0) [] ≡ refused (1 at 0)) × (
     × (best (result 0 66 50 (result 9 66 50 [])) ≡ refused (3 at 1)) × (best (result 0 70 50 (result 9 66 50 [])) ≡ refused (4 at 0))
     × (best (result 0 66 50 (result 6 89 1 [])) ≡ refused (4 at 1)) × (best (dated 0 66 50 1979 []) ≡ refused (4 at 0)) × (best (dated 0 66 50 2022 []) ≡ refused (4 at 0))
     × (best (three (result 0 66 50 (result 4 66 60 (result 0 66 50 [])))) ≡ refused (6 at 4)) × (best [] ≡ refused (7 at 0))
-unfolding slots first word inTurn outside found slotOf from sumOver countOver scoreFound score usable english kept wrong unscored repeated admissible earlier chosen
+unfolding slots first word inTurn outside found slotOf onesFrom sumOver countOver scoreFound score usable english kept wrong unscored repeated admissible earlier chosen
 refusals = (refl, refl, refl, refl, refl, refl, refl, refl, refl, refl, refl, refl, refl)
 
 -- one subject and one result: its slot holds 10000, 10001, or is missing
@@ -154,5 +154,5 @@ abbrev pub oneRow : ℕ → Outcome Values
 oneRow score = computed (student (1 ∷ 1 ∷ 0 ∷ 0 ∷ 1 ∷ []) (result 0 67 50 []) 2021) (oneScore 50 score)
 
 pub slot : (oneRow 10000 ≡ refused (8 at 0)) × (oneRow 10001 ≡ refused (5 at 0)) × (oneRow 65535 ≡ refused (5 at 0))
-unfolding slots first word inTurn outside found slotOf from sumOver countOver scoreFound score usable english kept wrong unscored repeated admissible earlier chosen
+unfolding slots first word inTurn outside found slotOf onesFrom sumOver countOver scoreFound score usable english kept wrong unscored repeated admissible earlier chosen
 slot = (refl, refl, refl)

@@ -12,7 +12,7 @@ use lib.Pow.{pow-pos, pow-mono, shr-shr, high, shl-exact}
 use lib.Bits.{bitAnd, and-step, and-high, and-shr, and-zero-l, and-le-l, block-half, block-odd}
 use lib.Count.{ones, onesIn, ones-step}
 use Rattle.paper.specs.Lists.{pick}
-use Rattle.bestset.specs.Sets.{bit, In, has, joined, from, positions, sumOver, countOver, total}
+use Rattle.bestset.specs.Sets.{bit, In, has, joined, onesFrom, positions, sumOver, countOver, total}
 
 -- ---- one bit
 
@@ -115,20 +115,20 @@ no-meet a b i z p q =
 
 -- ---- positions
 
-pub from-0 : (k i m : ℕ) → m % 2 ≡ 0 → from (suc k) i m ≡ from k (suc i) (m / 2)
-unfolding from
-from-0 k i m e = ap (λ (d : ℕ). joined d i (from k (suc i) (m / 2))) e
+pub ones-from-0 : (k i m : ℕ) → m % 2 ≡ 0 → onesFrom (suc k) i m ≡ onesFrom k (suc i) (m / 2)
+unfolding onesFrom
+ones-from-0 k i m e = ap (λ (d : ℕ). joined d i (onesFrom k (suc i) (m / 2))) e
 
-pub from-1 : (k i m : ℕ) → m % 2 ≡ 1 → from (suc k) i m ≡ i ∷ from k (suc i) (m / 2)
-unfolding from
-from-1 k i m e = ap (λ (d : ℕ). joined d i (from k (suc i) (m / 2))) e
+pub ones-from-1 : (k i m : ℕ) → m % 2 ≡ 1 → onesFrom (suc k) i m ≡ i ∷ onesFrom k (suc i) (m / 2)
+unfolding onesFrom
+ones-from-1 k i m e = ap (λ (d : ℕ). joined d i (onesFrom k (suc i) (m / 2))) e
 
 ones-zero : ones 0 ≡ 0
 unfolding ones onesIn
 ones-zero = refl
 
-pub length-ones : (k i m : ℕ) → m < 2 ^ k → length (from k i m) ≡ ones m
-unfolding from
+pub length-ones : (k i m : ℕ) → m < 2 ^ k → length (onesFrom k i m) ≡ ones m
+unfolding onesFrom
 length-ones zero i m h = sym (ap ones (lt-one h) ∙ ones-zero)
 length-ones (suc k) i m h =
     let ih = length-ones k (suc i) (m / 2) (omega arith) in
@@ -138,19 +138,19 @@ length-ones (suc k) i m h =
 -- ---- sums over positions
 
 module _ (f : ℕ → ℕ) (k i m : ℕ) where
-  sum-0 : m % 2 ≡ 0 → sumOver f (from (suc k) i m) ≡ sumOver f (from k (suc i) (m / 2))
-  sum-0 e = ap (sumOver f) (from-0 k i m e)
+  sum-0 : m % 2 ≡ 0 → sumOver f (onesFrom (suc k) i m) ≡ sumOver f (onesFrom k (suc i) (m / 2))
+  sum-0 e = ap (sumOver f) (ones-from-0 k i m e)
 
-  sum-1 : m % 2 ≡ 1 → sumOver f (from (suc k) i m) ≡ f i + sumOver f (from k (suc i) (m / 2))
+  sum-1 : m % 2 ≡ 1 → sumOver f (onesFrom (suc k) i m) ≡ f i + sumOver f (onesFrom k (suc i) (m / 2))
   unfolding sumOver
-  sum-1 e = ap (sumOver f) (from-1 k i m e)
+  sum-1 e = ap (sumOver f) (ones-from-1 k i m e)
 
-sum-none : (f : ℕ → ℕ) (i m : ℕ) → sumOver f (from 0 i m) ≡ 0
-unfolding from sumOver
+sum-none : (f : ℕ → ℕ) (i m : ℕ) → sumOver f (onesFrom 0 i m) ≡ 0
+unfolding onesFrom sumOver
 sum-none f i m = refl
 
 -- a sum is at most as much for each position as any of them gives
-sum-most : (f : ℕ → ℕ) (n : ℕ) → ((i : ℕ) → f i ≤ n) → (k i m : ℕ) → sumOver f (from k i m) ≤ k * n
+sum-most : (f : ℕ → ℕ) (n : ℕ) → ((i : ℕ) → f i ≤ n) → (k i m : ℕ) → sumOver f (onesFrom k i m) ≤ k * n
 sum-most f n h zero i m = omega (arith, sum-none f i m)
 sum-most f n h (suc k) i m =
     let ih = sum-most f n h k (suc i) (m / 2) in
@@ -164,12 +164,12 @@ pub total-most : (score : ℕ → ℕ) (n : ℕ) → ((i : ℕ) → score i ≤ 
 total-most score n h set = sum-most score n h 16 0 set
 
 pub total-none : (score : ℕ → ℕ) → 0 ≡ total score 0
-unfolding from sumOver
+unfolding onesFrom sumOver
 total-none score = refl
 
 -- a result joins a set of results before it
-sum-join : (f : ℕ → ℕ) (a k i s : ℕ) → a < k → s < 2 ^ a → sumOver f (from k i (2 ^ a + s)) ≡ sumOver f (from k i s) + f (i + a)
-unfolding from sumOver
+sum-join : (f : ℕ → ℕ) (a k i s : ℕ) → a < k → s < 2 ^ a → sumOver f (onesFrom k i (2 ^ a + s)) ≡ sumOver f (onesFrom k i s) + f (i + a)
+unfolding onesFrom sumOver
 sum-join f a zero i s l h = absurd (omega arith)
 sum-join f zero (suc k) i s l h = rw (lt-one h, add-zero i) (omega arith)
 sum-join f (suc a) (suc k) i s l h =
@@ -185,7 +185,7 @@ total-join score a s l h =
     ap (total score) o ∙ sum-join score a 16 0 s l h ∙ ap (λ (n : ℕ). total score s + score n) (zero-add a)
 
 -- a set is the sum of its members' bits
-bits-sum : (k i m : ℕ) → m < 2 ^ k → sumOver (λ (n : ℕ). 2 ^ n) (from k i m) ≡ m * 2 ^ i
+bits-sum : (k i m : ℕ) → m < 2 ^ k → sumOver (λ (n : ℕ). 2 ^ n) (onesFrom k i m) ≡ m * 2 ^ i
 bits-sum zero i m h = sum-none (λ (n : ℕ). 2 ^ n) i m ∙ omega arith ∙ ap (λ (x : ℕ). x * 2 ^ i) (sym (lt-one h))
 bits-sum (suc k) i m h =
     let ih = bits-sum k (suc i) (m / 2) (omega arith) in
@@ -214,7 +214,7 @@ flag : (i g : ℕ) → pick (has g i) 1 0 ≡ bit i g
 flag i g = ⊎-elim (λ (e : bit i g ≡ 0). rw e refl) (λ (e : bit i g ≡ 1). rw e refl) (digit (g / 2 ^ i))
 
 -- as many members are in a mask as the meet has ones
-pub count-ones : (k i t g : ℕ) → t < 2 ^ k → countOver (has g) (from k i t) ≡ ones (bitAnd t (g / 2 ^ i))
+pub count-ones : (k i t g : ℕ) → t < 2 ^ k → countOver (has g) (onesFrom k i t) ≡ ones (bitAnd t (g / 2 ^ i))
 unfolding countOver
 count-ones zero i t g h =
     sum-none (λ (n : ℕ). pick (has g n) 1 0) i t

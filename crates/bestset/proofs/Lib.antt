@@ -7,6 +7,7 @@ pub mod Steps
 pub mod Marks
 pub mod Scores
 pub mod Promised
+pub mod Demand
 pub mod Choosing
 pub mod Deciding
 pub mod Meeting

@@ -11,8 +11,8 @@ use lib.ListN.{length}
 use lib.Arith.{lt-one, bin-ind}
 use lib.Pow.{pow-pos, split, mod-pow-add}
 use lib.Count.{ones, ones-step, ones-cat}
-use Rattle.bestset.specs.Sets.{from, positions, Earlier}
-use Rattle.bestset.proofs.Digits.{digit, from-0, from-1, same-positions}
+use Rattle.bestset.specs.Sets.{onesFrom, positions, Earlier}
+use Rattle.bestset.proofs.Digits.{digit, ones-from-0, ones-from-1, same-positions}
 
 -- ---- dictionary order is a total order
 
@@ -146,17 +146,17 @@ key-within (suc a) (suc k) s t l h p q =
     (digit s)
 
 -- what begins with i comes before positions that begin after i
-front : (k j m i : ℕ) (l : List ℕ) → i < j → 0 < length (from k j m) → Earlier (i ∷ l) (from k j m)
-unfolding Earlier from
+front : (k j m i : ℕ) (l : List ℕ) → i < j → 0 < length (onesFrom k j m) → Earlier (i ∷ l) (onesFrom k j m)
+unfolding Earlier onesFrom
 front zero j m i l h p = absurd (omega arith)
 front (suc k) j m i l h p =
     ⊎-elim
-    (λ (e : m % 2 ≡ 0). let f = from-0 k j m e in let lf = ap length f in rw f (front k (suc j) (m / 2) i l (omega arith) (omega arith)))
-    (λ (e : m % 2 ≡ 1). rw (from-1 k j m e) (inl h))
+    (λ (e : m % 2 ≡ 0). let f = ones-from-0 k j m e in let lf = ap length f in rw f (front k (suc j) (m / 2) i l (omega arith) (omega arith)))
+    (λ (e : m % 2 ≡ 1). rw (ones-from-1 k j m e) (inl h))
     (digit m)
 
 -- the first of two sets with equally many members
-pub earlier : (k i s t : ℕ) → length (from k i s) ≡ length (from k i t) → key k t < key k s → Earlier (from k i s) (from k i t)
+pub earlier : (k i s t : ℕ) → length (onesFrom k i s) ≡ length (onesFrom k i t) → key k t < key k s → Earlier (onesFrom k i s) (onesFrom k i t)
 unfolding Earlier
 earlier zero i s t e h = let a = key-lt 0 s in absurd (omega arith)
 earlier (suc k) i s t e h =
@@ -165,28 +165,28 @@ earlier (suc k) i s t e h =
     ⊎-elim
     (λ (ds : s % 2 ≡ 0).
     let ks = key-0 k s ds in
-    let fs = from-0 k i s ds in
+    let fs = ones-from-0 k i s ds in
     let ls = ap length fs in
     ⊎-elim
     (λ (dt : t % 2 ≡ 0).
     let kt = key-0 k t dt in
-    let ft = from-0 k i t dt in
+    let ft = ones-from-0 k i t dt in
     let lt = ap length ft in
     rw (fs, ft) (earlier k (suc i) (s / 2) (t / 2) (omega arith) (omega arith)))
     (λ (dt : t % 2 ≡ 1). let kt = key-1 k t dt in absurd (omega arith))
     (digit t))
     (λ (ds : s % 2 ≡ 1).
     let ks = key-1 k s ds in
-    let fs = from-1 k i s ds in
+    let fs = ones-from-1 k i s ds in
     let ls = ap length fs in
     ⊎-elim
     (λ (dt : t % 2 ≡ 0).
-    let ft = from-0 k i t dt in
+    let ft = ones-from-0 k i t dt in
     let lt = ap length ft in
-    rw (fs, ft) (front k (suc i) (t / 2) i (from k (suc i) (s / 2)) (omega arith) (omega arith)))
+    rw (fs, ft) (front k (suc i) (t / 2) i (onesFrom k (suc i) (s / 2)) (omega arith) (omega arith)))
     (λ (dt : t % 2 ≡ 1).
     let kt = key-1 k t dt in
-    let ft = from-1 k i t dt in
+    let ft = ones-from-1 k i t dt in
     let lt = ap length ft in
     rw (fs, ft) (inr (refl, earlier k (suc i) (s / 2) (t / 2) (omega arith) (omega arith))))
     (digit t))

@@ -23,13 +23,15 @@ someIn set f = some 16 (λ i. has set i && f i)
 abbrev pub both : ℕ → Student → ℕ → Bool
 both n s set = someIn set (λ i. general s i && ofStrand n s i) && someIn set (λ i. applied s i && ofStrand n s i)
 
--- two of kinds 1 or 3 with one identity
+-- result i is of kinds 1 or 3
 abbrev pub identified : Student → ℕ → Bool
 identified s i = isIdentified (kindOf (s .catalogue) (s .results) i)
 
+-- result j comes after result i, and is of kinds 1 or 3 with its identity
 abbrev pub shares : Student → ℕ → ℕ → Bool
 shares s i j = ltb i j && (identified s j && eqb (identityOf (s .catalogue) (s .results) i) (identityOf (s .catalogue) (s .results) j))
 
+-- two of kinds 1 or 3 with one identity
 abbrev pub twice : Student → ℕ → Bool
 twice s set = someIn set (λ i. identified s i && someIn set (shares s i))
 

@@ -41,10 +41,11 @@ usable s i =
     && (countsFor (kindOf (s .catalogue) (s .results) i) (letterOf (s .results) i) (levelOf (s .catalogue) (s .results) i)
     && recent (s .year) (yearOf (s .results) i))
 
--- English: some usable result with strand 1 has letter A, B or C
+-- a usable result with strand 1 and letter A, B or C
 abbrev pub passes : Student → ℕ → Bool
 passes s i = usable s i && (ofStrand 1 s i && from 65 67 (letterOf (s .results) i))
 
+-- English: some usable result with strand 1 has letter A, B or C
 unfoldable pub english : Student → Bool
 english s = some (held (s .results)) (passes s)
 
@@ -52,9 +53,10 @@ english s = some (held (s .results)) (passes s)
 abbrev pub again : Student → ℕ → ℕ → Bool
 again s i j = usable s j && eqb (subjectOf (s .results) j) (subjectOf (s .results) i)
 
--- kept: a usable result with no usable result of the same subject in a later year
+-- result j is usable, of the same subject as result i, in a later year
 abbrev pub later : Student → ℕ → ℕ → Bool
 later s i j = again s i j && ltb (yearOf (s .results) i) (yearOf (s .results) j)
 
+-- kept: a usable result with no usable result of the same subject in a later year
 unfoldable pub kept : Student → ℕ → Bool
 kept s i = usable s i && not (some (held (s .results)) (later s i))

@@ -35,7 +35,7 @@ pub record Allowed (masks : Masks) (identities : ℕ → ℕ) (set : ℕ) : Type
   pub maths : Apart (masks .«general_maths») (masks .«applied_maths») set
   pub distinct : Distinct identities set
 
--- a mask holds the results of P, and those alone
+-- a mask holds the positions below 16 that have P, and those alone
 pub record Holds (P : ℕ → Type 0) (mask : ℕ) : Type 0 where
   pub sound : (i : ℕ) → In i mask → P i
   pub whole : (i : ℕ) → i < 16 → P i → In i mask

@@ -26,12 +26,13 @@ yearFits s i = from 1980 (s .year) (yearOf (s .results) i)
 unfoldable pub wrong : Student → ℕ → Bool
 wrong s i = not (gradeFits (kindOf (s .catalogue) (s .results) i) (letterOf (s .results) i) (numberOf (s .results) i) && yearFits s i)
 
--- a usable result with a missing slot or one over 10000
+-- what is found is a score
 abbrev pub isScore : Found → Bool
 isScore (scaled v) = true
 isScore absent = false
 isScore over = false
 
+-- a usable result with a missing slot or one over 10000
 unfoldable pub unscored : Student → List ℕ → ℕ → Bool
 unscored s table i = usable s i && not (isScore (scoreFound (s .catalogue) table (s .results) i))
 
@@ -43,10 +44,11 @@ resultRules s table i =
     ∷ unscored s table i ⇒ 5 at i
     ∷ []
 
--- result i is the later one of two usable results of one subject and year
+-- result j is usable, of the same subject and year as result i
 abbrev pub sameYear : Student → ℕ → ℕ → Bool
 sameYear s i j = again s i j && eqb (yearOf (s .results) j) (yearOf (s .results) i)
 
+-- result i is the later one of two usable results of one subject and year
 unfoldable pub repeated : Student → ℕ → Bool
 repeated s i = usable s i && some i (sameYear s i)
 

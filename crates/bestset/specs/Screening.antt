@@ -17,7 +17,7 @@ abbrev pub ruled : Verdict → Outcome (Unit {0})
 ruled Clear = accepted tt
 ruled (Refused x) = refused (fault x)
 
--- the results of each sort
+-- the positions of each sort: past the results a position reads subject 0, and Kept alone asks that there is such a result
 abbrev pub belongs : Sort → Student → ℕ → Bool
 belongs Kept s i = kept s i
 belongs General s i = general s i
@@ -26,8 +26,8 @@ belongs AppliedEnglish s i = applied s i && ofStrand 1 s i
 belongs GeneralMaths s i = general s i && ofStrand 2 s i
 belongs AppliedMaths s i = applied s i && ofStrand 2 s i
 
--- each mask holds the results of its sort
-pub record Sorted (s : Student) (masks : Masks) : Type 0 where
+-- each mask holds the positions of its sort
+pub record Masked (s : Student) (masks : Masks) : Type 0 where
   pub kept-is : Holds (λ i. belongs Kept s i ≡ true) (masks .kept)
   pub general-is : Holds (λ i. belongs General s i ≡ true) (masks .general)
   pub general-english : Holds (λ i. belongs GeneralEnglish s i ≡ true) (masks .«general_english»)

@@ -17,7 +17,7 @@ pub enum Answer {
     Refused(Refusal),
 }
 
-// The best set of a student with English shown.
+// The best set of a well-formed student.
 fn choose(catalogue: &[u8], table: &[u8], results: &[u8], year: u64) -> Answer
     requires { ⌜ WellFormed (student (now catalogue) (now results) year) (now table) ⌝ }
     ensures { λ r. ⌜ Answered (student (now (catalogue .entry)) (now (results .entry)) year) (now (table .entry)) (said r) ⌝ }

@@ -1,9 +1,9 @@
-// The masks of a student's results: bit i for result i.
+// The masks of the 16 positions: bit i for position i, which may be past the student's results.
 ghost use mathlib.Core.Path.{_≡_};
 ghost use mathlib.Core.Bool.{true};
 ghost use Rattle.bestset.specs.Counting.{student};
 ghost use Rattle.bestset.specs.Masked.{Holds};
-ghost use Rattle.bestset.specs.Screening.{belongs, Sorted};
+ghost use Rattle.bestset.specs.Screening.{belongs, Masked};
 use crate::counting;
 use crate::reading;
 use crate::search::Masks;
@@ -19,7 +19,7 @@ pub(crate) enum Sort {
     AppliedMaths,
 }
 
-// Whether a result is of the sort.
+// Whether a position is of the sort; past the results it reads subject 0, and is not kept.
 fn belongs(sort: Sort, catalogue: &[u8], results: &[u8], year: u64, i: usize) -> bool
     ensures { λ r. ⌜ r ≡ belongs sort (student (now (catalogue .entry)) (now (results .entry)) year) i ⌝ }
 {
@@ -53,7 +53,7 @@ fn mask_of(sort: Sort, catalogue: &[u8], results: &[u8], year: u64) -> u16
 }
 
 pub(crate) fn masks_of(catalogue: &[u8], results: &[u8], year: u64) -> Masks
-    ensures { λ r. ⌜ Sorted (student (now (catalogue .entry)) (now (results .entry)) year) r ⌝ }
+    ensures { λ r. ⌜ Masked (student (now (catalogue .entry)) (now (results .entry)) year) r ⌝ }
 {
     let kept = mask_of(Sort::Kept, catalogue, results, year);
     let general = mask_of(Sort::General, catalogue, results, year);

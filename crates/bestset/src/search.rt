@@ -1,4 +1,4 @@
-// The search for the best set: the sets of kept results are tried in dictionary order of their positions.
+// The search for the best set: those of five kept results are tried in dictionary order of their positions. Shorter sets are tried in between; none is admissible.
 ghost use Prim.Native.Nat.{ℕ, _<_};
 ghost use Rattle.bestset.specs.Reading.{score, identity};
 ghost use Rattle.bestset.specs.Sets.{In};
@@ -6,7 +6,7 @@ ghost use Rattle.bestset.specs.Masked.{Distinct, Repeated, Allowed, Deci
 use crate::reading::identity_at;
 use crate::reading::score_at;
 
-// The results that are kept, and those of each sort: bit i for result i.
+// The positions of the kept results, and those of each sort: bit i for position i. Only a kept one is sure to be that of a result.
 pub(crate) struct Masks {
     pub(crate) kept: u16,
     pub(crate) general: u16,

@@ -1,3 +1,5 @@
 pub mod Best
-pub mod Population
-pub mod Cohorts
+pub mod Participation
+pub mod Placing
+pub mod Ranking
+pub mod Text

@@ -8,24 +8,24 @@ use paper::refusal;
 
 // Accepted: refusal and place are 0. Refused: aggregate and set are 0.
 #[repr(C)]
-pub struct BestSet {
+pub struct Best {
     pub refusal: u64,
     pub place: u64,
     pub aggregate: u32,
     pub set: u16,
 }
 
-fn flatten(answer: Answer) -> BestSet
+fn flatten(answer: Answer) -> Best
     ensures { λ r. ⌜ r ≡ flatBest (said answer) ⌝ }
 {
     match answer {
-        Answer::Accepted { aggregate, set } => BestSet {
+        Answer::Accepted { aggregate, set } => Best {
             refusal: 0,
             place: 0,
             aggregate,
             set,
         },
-        Answer::Refused(x) => BestSet {
+        Answer::Refused(x) => Best {
             refusal: refusal::number(x) as u64,
             place: refusal::place(x) as u64,
             aggregate: 0,
@@ -38,10 +38,10 @@ fn flatten(answer: Answer) -> BestSet
 pub extern "C" fn shtegomir_best_set(
     catalogue: &[u8],
     table: &[u8],
-    year: u64,
+    year: u32,
     results: &[u8],
-) -> BestSet
+) -> Best
     ensures { λ r. ⌜ BestCalled (student (now (catalogue .entry)) (now (results .entry)) year) (now (table .entry)) r ⌝ }
 {
-    flatten(bestset::best_set(catalogue, table, results, year))
+    flatten(bestset::best_set(catalogue, table, results, year as u64))
 }

@@ -1,4 +1,6 @@
 // The entries that C calls: slices and numbers in, a C struct out. The header is include/shtegomir.h.
 pub mod best;
-pub mod cohorts;
-pub mod population;
+pub mod participation;
+pub mod placing;
+pub mod ranking;
+pub mod text;

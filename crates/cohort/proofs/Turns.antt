@@ -2,14 +2,14 @@
 use Prim.Native.Nat.{ℕ, _+_, _-_, _*_, _<_, _≤_}
 use native.Mathlib.Omega.{arith}
 use mathlib.Core.Path.{_≡_, refl, sym, ap, subst, _∙_}
-use mathlib.Core.Bool.{true, false, not}
-use mathlib.Core.List.{List, [], _∷_, _++_}
+use mathlib.Core.Bool.{false, not}
+use mathlib.Core.List.{List, [], _∷_}
 use lib.ListN.{length, take, set, length-append}
 use borrow.Author.Tests.{not-false, leb-false}
 use Rattle.paper.specs.Bytes.{byte, word, long}
-use Rattle.paper.specs.Rulings.{Fault, accepted, refused, Rule, _⇒_, judged}
+use Rattle.paper.specs.Rulings.{accepted, refused, Rule, judged}
 use Rattle.paper.specs.Refusals.{fault}
-use Rattle.paper.proofs.Ruled.{Kept, all-kept, kept-all, given-values, after-kept, before-refused}
+use Rattle.paper.proofs.Ruled.{Kept, all-kept, kept-all, given-values, any-values, after-kept, before-refused}
 use Rattle.paper.specs.declared.refusal.Refusal.{Refusal}
 use Rattle.subjects.specs.Catalogue.{subjects, from}
 use Rattle.subjects.specs.Rows.{cleared, stored}
@@ -26,12 +26,6 @@ use Rattle.cohort.specs.declared.steps.Step.the-variants.{Go, Stop}
 use Rattle.cohort.proofs.Laws.{take-begun, laid-begun, set-next, set-begun, begun-all, new-row, row-laid, stored-begun, equal-kept}
 use Rattle.cohort.proofs.Pupils.{fresh, ids-fresh, counts-fresh, results-fresh, latest-fresh, length-ids, length-counts, same-number, same-ids, latest-more, counts-more, results-more}
 use Rattle.cohort.proofs.Populated.{ten-figures}
-
--- what is refused is so with any values
-pub any-values : {A B : Type 0} (rules : List Rule) (u : A) (w : B) (f : Fault) → judged rules u ≡ refused f → judged rules w ≡ refused f
-any-values [] u w f e = absurd (let z : _≡_ {A = ℕ} 0 1 = cc in omega arith)
-any-values (true ⇒ g ∷ rules) u w f e = let z : g ≡ f = cc in ap refused z
-any-values (false ⇒ g ∷ rules) u w f e = any-values rules u w f e
 
 pub not-kept : (low high n : ℕ) → not (from low high n) ≡ false → (low ≤ n) × (n ≤ high)
 not-kept low high n e = from-true low high n (not-false (from low high n) e)

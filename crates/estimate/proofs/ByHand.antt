@@ -10,7 +10,7 @@ use Rattle.paper.specs.Bytes.{word, long}
 use Rattle.subjects.specs.Scores.{found, slotOf}
 use Rattle.subjects.specs.Catalogue.{outside}
 use Rattle.subjects.specs.Rows.{withRow, scoredRow, cleared, stored}
-use Rattle.bestset.specs.Sets.{from, sumOver, countOver, Earlier}
+use Rattle.bestset.specs.Sets.{onesFrom, sumOver, countOver, Earlier}
 use Rattle.bestset.specs.Reading.{scoreFound, score, identity}
 use Rattle.bestset.specs.Counting.{usable, english, kept}
 use Rattle.bestset.specs.Computed.{admissible, earlier, chosen}
@@ -87,5 +87,5 @@ listing =
     ∷ []
 
 pub example : textOf office ≡ listing
-unfolding row nearest sum count first total listed inTurn word long found slotOf outside withRow scoredRow cleared stored from sumOver countOver Earlier scoreFound score identity usable english kept admissible earlier chosen wrong unscored repeated lower upper entry tableOf S E ranksOf percentilesOf zeros sumsOf bandsBy remainderBy readOf bandUpTo bandsOf tallyOf numberAt places remainder laid holdsId resultsOf newRow body reading begun fields fileOf padded digitsIn digits atar outcome aggregatesOf linesOf textOf
+unfolding row nearest sum count first total listed inTurn word long found slotOf outside withRow scoredRow cleared stored onesFrom sumOver countOver Earlier scoreFound score identity usable english kept admissible earlier chosen wrong unscored repeated lower upper entry tableOf S E ranksOf percentilesOf zeros sumsOf bandsBy remainderBy readOf bandUpTo bandsOf tallyOf numberAt places remainder laid holdsId resultsOf newRow body reading begun fields fileOf padded digitsIn digits atar outcome aggregatesOf linesOf textOf
 example = refl

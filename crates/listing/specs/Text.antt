@@ -9,7 +9,7 @@ use Rattle.paper.specs.Lists.{pick}
 abbrev pub digit : ℕ → ℕ
 digit n = 48 + n % 10
 
--- n in decimal, with no leading zeros: the digits of n/10, where n has more than one, and the last. k bounds how many there are
+-- n in decimal, with no leading zeros: the digits of n/10, where n has more than one, and the last. k bounds how many there are before the last
 unfoldable pub digitsIn : ℕ → ℕ → List ℕ
 digitsIn zero n = digit n ∷ []
 digitsIn (suc k) n = elim (ltb n 10) [ true ↦ digit n ∷ [] | false ↦ digitsIn k (n / 10) ++ (digit n ∷ []) ]

@@ -14,7 +14,7 @@ use Rattle.paper.specs.Rulings.{Outcome, accepted, refused, judged, inTurn}
 use Rattle.paper.proofs.Ruled.{Kept, kept-all}
 use Rattle.subjects.specs.Catalogue.{outside}
 use Rattle.subjects.specs.Scores.{found, slotOf}
-use Rattle.bestset.specs.Sets.{from, sumOver, countOver}
+use Rattle.bestset.specs.Sets.{onesFrom, sumOver, countOver}
 use Rattle.bestset.specs.Reading.{scoreFound, score}
 use Rattle.bestset.specs.Counting.{usable, english, kept}
 use Rattle.bestset.specs.Rules.{wrong, unscored, repeated}
@@ -108,7 +108,7 @@ join (suc n) (e ∷ es) a b = (a .0, join n es (a .1) b)
 
 -- students 7, 8, 9 and 11; six Generals
 students : AllCompute (take 5 examples)
-unfolding examples slots first word inTurn outside found slotOf from sumOver countOver scoreFound score usable english kept wrong unscored repeated admissible earlier chosen
+unfolding examples slots first word inTurn outside found slotOf onesFrom sumOver countOver scoreFound score usable english kept wrong unscored repeated admissible earlier chosen
 students = (refl, (refl, (refl, (refl, (refl, tt)))))
 
 -- r=5000, r=2500 and r=7500

@@ -1,0 +1,39 @@
+// Ranks and percentiles.
+ghost use mathlib.Core.Path.{_≡_};
+ghost use Rattle.ranks.specs.Promise.{said};
+ghost use Rattle.capi.specs.Ranking.{flatRanked, RankCalled};
+use paper::refusal;
+use ranks::Answer;
+
+// Accepted: both are 0.
+#[repr(C)]
+pub struct Ranked {
+    pub refusal: u64,
+    pub place: u64,
+}
+
+fn flatten(answer: Answer) -> Ranked
+    ensures { λ r. ⌜ r ≡ flatRanked (said answer) ⌝ }
+{
+    match answer {
+        Answer::Accepted => Ranked {
+            refusal: 0,
+            place: 0,
+        },
+        Answer::Refused(x) => Ranked {
+            refusal: refusal::number(x) as u64,
+            place: refusal::place(x) as u64,
+        },
+    }
+}
+
+#[no_mangle]
+pub extern "C" fn shtegomir_rank(
+    values: &[u32],
+    ranks: &mut [u32],
+    percentiles: &mut [u32],
+) -> Ranked
+    ensures { λ r. ⌜ RankCalled (now (values .entry)) (now (ranks .entry)) (now (percentiles .entry)) r (now (ranks .exit)) (now (percentiles .exit)) ⌝ }
+{
+    flatten(ranks::ranks(values, ranks, percentiles))
+}

@@ -1,0 +1,566 @@
+/* Holds each entry of the library to the second implementation, on inputs made from a seed: long and short, valid and damaged.
+ * Answers are compared field by field, lent buffers whole and past their ends, and a refused call must leave them as they were.
+ * Each refusal that an entry can give must be met. The first difference ends the run, with its input.
+ *
+ *   compare [SEED]
+ */
+#include <stdio.h>
+#include <stdlib.h>
+#include <string.h>
+#include <time.h>
+
+#include "chance.h"
+#include "files.h"
+#include "second.h"
+#include "shtegomir.h"
+
+/* How many inputs of each entry. */
+enum { BEST_SETS = 100000, CURVES = 3000, RANKINGS = 10000, DIRECT = 10000, TALLIES = 500, REPORTS = 2000 };
+
+enum { BANDS = 2000, COUNTS = 50001, MOST = 100000, MILLION = 1000000, NUMBERS = REFUSALS };
+
+enum { PATTERN = 0xa5, PAST = 8, SPARE = 16 }; /* bytes that are looked at past a buffer, and room for that and for lengths that are off */
+
+/* One more, one less, or next to nothing. */
+static size_t another(size_t length)
+{
+    return chance(30) || length == 0 ? length == 0 : length + ONE_OF(0, 2) - 1;
+}
+
+/* ---- What is found ---- */
+
+struct entry {
+    const char *name;
+    unsigned gives; /* bit n: it can give refusal n; bit 0: it can accept */
+    unsigned long inputs, met[NUMBERS];
+};
+
+static int differs;
+
+static void same(const char *what, uint64_t found, uint64_t second)
+{
+    if (found == second)
+        return;
+    differs = 1;
+    printf("%s: %llu, and by the second implementation %llu\n", what, (unsigned long long)found, (unsigned long long)second);
+}
+
+static void same_refusal(struct entry *e, uint64_t refusal, uint64_t place, uint64_t second_refusal, uint64_t second_place)
+{
+    e->inputs++;
+    same("refusal", refusal, second_refusal);
+    same("place", place, second_place);
+    if (refusal < NUMBERS)
+        e->met[refusal]++;
+}
+
+/* Buffers are filled before the calls, with PAST bytes more than are lent. */
+static void fill(void *found, void *second, size_t size)
+{
+    memset(found, PATTERN, size + PAST);
+    memset(second, PATTERN, size + PAST);
+}
+
+static void same_buffer(const char *what, uint64_t refusal, const void *found, const void *second, size_t size)
+{
+    const uint8_t *ours = found, *theirs = second;
+    for (size_t i = 0; i < size + PAST; i++)
+        if (ours[i] != theirs[i] || ((refusal != 0 || i >= size) && ours[i] != PATTERN)) {
+            differs = 1;
+            printf("%s: byte %zu is %u, and by the second implementation %u; it was %u\n", what, i, ours[i], theirs[i], PATTERN);
+            return;
+        }
+}
+
+static void print_bytes(const char *name, const uint8_t *bytes, size_t length)
+{
+    printf("%s, %zu bytes:", name, length);
+    for (size_t i = 0; i < length; i++)
+        printf(i % 50 == 0 ? "\n%02x" : " %02x", bytes[i]);
+    printf("\n");
+}
+
+static void print_numbers(const char *name, const uint32_t *numbers, size_t length)
+{
+    printf("%s, %zu numbers:", name, length);
+    for (size_t i = 0; i < length; i++)
+        printf(i % 20 == 0 ? "\n%lu" : " %lu", (unsigned long)numbers[i]);
+    printf("\n");
+}
+
+/* Each refusal that it can give was met, and no other. */
+static int all_met(const struct entry *e)
+{
+    unsigned met = 0;
+    printf("%s: %lu inputs, of these", e->name, e->inputs);
+    for (unsigned n = 0; n < NUMBERS; n++)
+        if (e->met[n] != 0) {
+            met |= 1u << n;
+            printf(n == 0 ? " %lu accepted" : ", %lu refused %u", e->met[n], n);
+        }
+    printf(met == e->gives ? "\n" : "; not all that it can give, or more\n");
+    return met == e->gives;
+}
+
+/* ---- The best set ---- */
+
+enum { ENTRY = 5, ROW = 200, RESULT = 6, SUBJECTS = 66, RESULTS = 18 };
+
+struct student {
+    size_t subjects, count; /* of its results */
+    uint8_t catalogue[ENTRY * SUBJECTS], table[ROW * SUBJECTS], results[RESULT * RESULTS];
+    size_t catalogue_len, table_len, results_len;
+    uint32_t year;
+};
+
+static void put_two(uint8_t *bytes, uint32_t value)
+{
+    bytes[0] = (uint8_t)(value >> 8);
+    bytes[1] = (uint8_t)value;
+}
+
+static void make_subject(struct student *s, size_t i)
+{
+    uint8_t *entry = s->catalogue + ENTRY * i;
+    entry[0] = (uint8_t)ONE_OF(1, 1, 1, 1, 1, 1, 1, 1, 1, 1, 2, 3, 3, 4, 4, 5, 6, 6);
+    entry[1] = (uint8_t)(entry[0] >= 5 ? 0 : ONE_OF(0, 0, 1, 1, 2));
+    entry[2] = (uint8_t)(entry[0] == 6 ? from(1, 6) : 0);
+    put_two(entry + 3, entry[0] != 1 && entry[0] != 3 ? 0 : chance(80) ? (uint32_t)i + 1 : ONE_OF(1, 2, 3, 256, 65535));
+}
+
+static uint32_t kind_of(const struct student *s, size_t i)
+{
+    uint32_t subject = 256u * s->results[RESULT * i] + s->results[RESULT * i + 1];
+    return subject < s->subjects ? s->catalogue[ENTRY * subject] : 0;
+}
+
+/* Where the score of a result stands; the table's first slot if it is no result. */
+static uint8_t *slot_of(struct student *s, size_t i)
+{
+    const uint8_t *result = s->results + RESULT * i;
+    uint32_t kind = kind_of(s, i), slot = kind == 4 ? 90 - 20 * (result[2] - 'A') : kind == 6 ? 1 : result[3];
+    return s->table + (kind == 0 || slot < 1 || slot > 100 ? 0 : ROW * (256u * result[0] + result[1]) + 2 * (slot - 1));
+}
+
+/* Few values make sets of one sum. */
+static uint32_t some_score(unsigned manner)
+{
+    switch (manner) {
+    case 0: return ONE_OF(0, 10000);
+    case 1: return 5000 + below(3);
+    case 2: return 7000;
+    case 3: return 100 * from(1, 100);
+    default: return below(10001);
+    }
+}
+
+/* Whether an earlier result has the subject and the year of result i. */
+static int is_again(const struct student *s, size_t i)
+{
+    const uint8_t *result = s->results + RESULT * i;
+    for (size_t j = 0; j < i; j++)
+        if (memcmp(s->results + RESULT * j, result, 2) == 0 && memcmp(s->results + RESULT * j + 4, result + 4, 2) == 0)
+            return 1;
+    return 0;
+}
+
+/* Mostly of this year, or of a year that counts, and not again. */
+static void make_result(struct student *s, size_t i, unsigned manner)
+{
+    uint8_t *result = s->results + RESULT * i;
+    uint32_t old;
+    unsigned tries = 0;
+    do {
+        old = chance(80) ? 0 : chance(80) ? below(5) : below(50);
+        put_two(result, s->subjects == 0 ? 0 : below(s->subjects));
+        put_two(result + 4, s->year - 1980 < old ? 1980 : s->year - old);
+    } while (is_again(s, i) && ++tries < 8);
+    uint32_t kind = kind_of(s, i);
+    result[2] = (uint8_t)(kind == 6 ? ONE_OF('Y', 'Y', 'Y', 'N') : ONE_OF('A', 'A', 'B', 'B', 'C', 'C', 'D', 'E'));
+    result[3] = (uint8_t)(kind > 3 ? 0 : chance(10) ? ONE_OF(1, 100) : from(1, 100));
+    if (old < 5 && result[2] != 'N' && kind != 5) /* the others are not usable, and need no score */
+        put_two(slot_of(s, i), some_score(manner));
+}
+
+static void make_student(struct student *s)
+{
+    unsigned manner = below(6);
+    s->subjects = chance(95) ? from(5, 20) : ONE_OF(0, 1, 2, 63, 64);
+    s->count = chance(80) ? from(6, 12) : below(17);
+    s->year = chance(70) ? 2021 : chance(50) ? ONE_OF(1984, 1985, 1988, 9999) : from(1984, 9999);
+    memset(s->table, chance(50) ? 255 : (int)below(256), sizeof s->table); /* slots that serve nobody hold anything */
+    for (size_t i = 0; i < s->subjects; i++)
+        make_subject(s, i);
+    for (size_t i = 0; i < s->count; i++)
+        make_result(s, i, manner);
+    s->catalogue_len = ENTRY * s->subjects;
+    s->table_len = ROW * s->subjects;
+    s->results_len = RESULT * s->count;
+}
+
+/* More subjects, or more results, than there may be. */
+static void make_many(struct student *s)
+{
+    if (chance(50)) {
+        for (; s->subjects < SUBJECTS - 1; s->subjects++)
+            make_subject(s, s->subjects);
+        s->catalogue_len = ENTRY * s->subjects;
+        s->table_len = ROW * s->subjects;
+    } else {
+        for (; s->count < RESULTS - 1; s->count++)
+            make_result(s, s->count, 5);
+        s->results_len = RESULT * s->count;
+    }
+}
+
+static void damage_result(struct student *s)
+{
+    size_t i = below(s->count);
+    uint8_t *result = s->results + RESULT * i;
+    switch (below(8)) {
+    case 0: put_two(result, (uint32_t)s->subjects - below(2)); break;
+    case 1: put_two(result, ONE_OF(256, 65535)); break;
+    case 2: result[2] = (uint8_t)ONE_OF('@', 'F', 'a', 'N', 'Y', 'X', 'Z', 0); break;
+    case 3: result[3] = (uint8_t)ONE_OF(0, 1, 100, 101, 255); break;
+    case 4: put_two(result + 4, s->year + ONE_OF(0, 4, 5) - 4); break; /* the fourth year before, this one, the next */
+    case 5: put_two(result + 4, ONE_OF(1979, 1980, 0, s->year - 5)); break;
+    case 6: put_two(slot_of(s, i), ONE_OF(0, 10000, 10001, 65534, 65535)); break;
+    default: memcpy(result, s->results + RESULT * below(s->count), RESULT); break;
+    }
+}
+
+static void damage_student(struct student *s)
+{
+    switch (below(12)) {
+    case 0: s->catalogue_len = another(s->catalogue_len); break;
+    case 1: s->table_len = another(s->table_len); break;
+    case 2: s->results_len = another(s->results_len); break;
+    case 3: s->year = ONE_OF(0, 1983, 10000, 65536 + 2021, UINT32_MAX); break;
+    case 4: make_many(s); break;
+    case 5: s->catalogue[below(ENTRY * s->subjects + 1)] = (uint8_t)ONE_OF(0, 1, 2, 3, 4, 5, 6, 7, 255); break;
+    case 6: s->results[below(RESULT * s->count + 1)] = (uint8_t)below(256); break;
+    default:
+        if (s->count > 0)
+            damage_result(s);
+        break;
+    }
+}
+
+static void compare_best_set(struct entry *e)
+{
+    static struct student s;
+    make_student(&s);
+    for (unsigned times = chance(35) ? from(1, 3) : 0; times > 0; times--)
+        damage_student(&s);
+    struct shtegomir_best a =
+        shtegomir_best_set(s.catalogue, s.catalogue_len, s.table, s.table_len, s.year, s.results, s.results_len);
+    struct second_best b = second_best_set(s.catalogue, s.catalogue_len, s.table, s.table_len, s.year, s.results, s.results_len);
+    same_refusal(e, a.refusal, a.place, b.refusal, b.place);
+    same("aggregate", a.aggregate, b.aggregate);
+    same("set", a.set, b.set);
+    if (!differs)
+        return;
+    printf("year %lu\n", (unsigned long)s.year);
+    print_bytes("catalogue", s.catalogue, s.catalogue_len);
+    print_bytes("table", s.table, s.table_len);
+    print_bytes("results", s.results, s.results_len);
+}
+
+/* ---- The curve ---- */
+
+/* E of one age, such that the rate is near a given one. */
+static void make_one_age(uint32_t *figures)
+{
+    uint32_t age = below(5), q = chance(30) ? ONE_OF(1, 2, 40, 100000, MILLION) : from(1, MILLION);
+    uint64_t rate = chance(50) ? ONE_OF(2500, 7500, 5000) : from(2400, 7600), e = q * rate / 10000 + ONE_OF(0, 0, 1, 2, 5);
+    memset(figures, 0, 10 * sizeof *figures);
+    figures[age] = q;
+    figures[5 + age] = (uint32_t)(e > 5 ? e - below(6) : e);
+}
+
+/* E of each age is about a fifth of the rate. */
+static void make_ages(uint32_t *figures)
+{
+    uint32_t middle = chance(50) ? from(1, 100) : from(1, MILLION), rate = from(2300, 7700);
+    for (int age = 0; age < 5; age++) {
+        uint32_t q = from(middle - middle / 8, middle + middle / 8);
+        figures[age] = q > MILLION ? MILLION : q;
+        figures[5 + age] = (uint32_t)((uint64_t)q * rate / 10000 * from(1, 9) / 25);
+    }
+}
+
+static void make_figures(uint32_t *figures)
+{
+    uint32_t most = ONE_OF(1, 2, 5, 20, MILLION);
+    switch (below(4)) {
+    case 0:
+        for (int i = 0; i < 10; i++)
+            figures[i] = below(most + 1);
+        break;
+    case 1: make_ages(figures); break;
+    default: make_one_age(figures); break;
+    }
+}
+
+static void compare_curve(struct entry *e)
+{
+    static uint32_t figures[10 + SPARE], ours[BANDS + SPARE], theirs[BANDS + SPARE];
+    size_t length = 10, table_len = BANDS;
+    make_figures(figures);
+    for (unsigned times = chance(25) ? from(1, 2) : 0; times > 0; times--)
+        switch (below(3)) {
+        case 0: length = another(length); break;
+        case 1: table_len = another(table_len); break;
+        default: figures[below(10)] = ONE_OF(0, MILLION, MILLION + 1, UINT32_MAX); break;
+        }
+    fill(ours, theirs, table_len * sizeof *ours);
+    struct shtegomir_curve a = shtegomir_participation(figures, length, ours, table_len);
+    struct second_curve b = second_participation(figures, length, theirs, table_len);
+    same_refusal(e, a.refusal, a.place, b.refusal, b.place);
+    same("population", a.population, b.population);
+    same("rate", a.rate, b.rate);
+    same_buffer("table", a.refusal, ours, theirs, table_len * sizeof *ours);
+    if (!differs)
+        return;
+    printf("a table of %zu\n", table_len);
+    print_numbers("figures", figures, length);
+}
+
+/* ---- Ranks ---- */
+
+/* Values with many ties, at the ends of their range, sorted either way, or any. */
+static void make_values(uint32_t *values, size_t count)
+{
+    unsigned manner = below(6);
+    uint32_t few = from(1, 5), start = below(UINT64_C(1) << 32);
+    for (size_t i = 0; i < count; i++)
+        switch (manner) {
+        case 0: values[i] = start + below(few); break;
+        case 1: values[i] = ONE_OF(0, 1, UINT32_MAX - 1, UINT32_MAX); break;
+        case 2: values[i] = (uint32_t)i; break;
+        case 3: values[i] = UINT32_MAX - (uint32_t)i / 2; break;
+        case 4: values[i] = below(50001); break;
+        default: values[i] = below(UINT64_C(1) << 32); break;
+        }
+}
+
+/* A number divisible by 64 makes percentiles with halves. */
+static size_t some_values(void)
+{
+    if (chance(1))
+        return chance(90) ? from(500, 1000) : from(3000, 4096);
+    return chance(40) ? 64 * below(4) : chance(80) ? below(30) : below(300);
+}
+
+static void compare_ranks(struct entry *e)
+{
+    static uint32_t values[MOST + SPARE], ranks[MOST + SPARE], others[MOST + SPARE];
+    static uint32_t percentiles[MOST + SPARE], other_percentiles[MOST + SPARE];
+    size_t count = some_values();
+    make_values(values, count);
+    if (chance(3))
+        count = MOST + from(1, 2);
+    size_t length = count, percentiles_len = count;
+    if (chance(15))
+        length = another(length);
+    if (chance(15))
+        percentiles_len = another(percentiles_len);
+    fill(ranks, others, length * sizeof *ranks);
+    fill(percentiles, other_percentiles, percentiles_len * sizeof *ranks);
+    struct shtegomir_ranked a = shtegomir_rank(values, count, ranks, length, percentiles, percentiles_len);
+    struct second_ranked b = second_rank(values, count, others, length, other_percentiles, percentiles_len);
+    same_refusal(e, a.refusal, a.place, b.refusal, b.place);
+    same_buffer("ranks", a.refusal, ranks, others, length * sizeof *ranks);
+    same_buffer("percentiles", a.refusal, percentiles, other_percentiles, percentiles_len * sizeof *ranks);
+    if (!differs)
+        return;
+    printf("ranks of %zu, percentiles of %zu\n", length, percentiles_len);
+    print_numbers("values", values, count);
+}
+
+/* ---- Bands ---- */
+
+struct cohort {
+    size_t count, table_len, bands_len, counts_len;
+    uint32_t aggregates[MOST + SPARE], table[BANDS + SPARE], population;
+};
+
+/* Y·F(k) is a multiple of 2000000000 at every band, so C is often equal to the places; a little more or less at one band. */
+static void make_equal_places(struct cohort *c)
+{
+    uint32_t unit = ONE_OF(2000, 20000, 200000, 500000, MILLION), few = from(0, 40);
+    c->population = 2000000000 / unit;
+    for (size_t k = 0; k < BANDS; k++)
+        c->table[k] = few == 0 || below(BANDS) < few ? unit * from(0, MILLION / unit < 3 ? MILLION / unit : 3) : 0;
+    uint32_t *entry = &c->table[chance(50) ? BANDS - 1 : below(BANDS)];
+    if (chance(30))
+        *entry = *entry > 0 && (*entry == MILLION || chance(50)) ? *entry - 1 : *entry + 1;
+}
+
+static void make_table(struct cohort *c)
+{
+    uint32_t most = ONE_OF(0, 1, 1000, MILLION), manner = below(4);
+    c->population = chance(30) ? ONE_OF(1, 2, 3, 40, MILLION) : chance(50) ? from(1, 5000) : from(1, MILLION);
+    for (uint32_t k = 0; k < BANDS; k++)
+        switch (manner) {
+        case 0: c->table[k] = most; break;
+        case 1: c->table[k] = below(most + 1); break;
+        case 2: c->table[k] = 500 * k; break;
+        default: c->table[k] = below(100) == 0 ? MILLION : 0; break;
+        }
+}
+
+static void make_aggregates(struct cohort *c)
+{
+    uint32_t manner = below(4), few = from(1, 5), start = below(49995);
+    for (size_t i = 0; i < c->count; i++)
+        switch (manner) {
+        case 0: c->aggregates[i] = start + below(few); break;
+        case 1: c->aggregates[i] = ONE_OF(0, 1, 49999, 50000); break;
+        case 2: c->aggregates[i] = 50000 - (uint32_t)i % 50001; break;
+        default: c->aggregates[i] = below(50001); break;
+        }
+}
+
+static void make_cohort(struct cohort *c, size_t count)
+{
+    c->count = c->bands_len = count;
+    c->table_len = BANDS;
+    c->counts_len = COUNTS;
+    if (chance(50))
+        make_equal_places(c);
+    else
+        make_table(c);
+    make_aggregates(c);
+}
+
+static void damage_cohort(struct cohort *c, size_t limit)
+{
+    switch (below(10)) {
+    case 0: c->count = c->bands_len = limit + from(1, 2); break;
+    case 1: c->table_len = another(c->table_len); break;
+    case 2: c->bands_len = another(c->bands_len); break;
+    case 3: c->counts_len = another(c->counts_len); break;
+    case 4:
+    case 5: c->population = ONE_OF(0, MILLION, MILLION + 1, UINT32_MAX); break;
+    case 6:
+    case 7: c->table[below(BANDS)] = ONE_OF(MILLION, MILLION + 1, UINT32_MAX); break;
+    default: c->aggregates[below(c->count + (c->count == 0))] = ONE_OF(50000, 50001, UINT32_MAX); break;
+    }
+}
+
+static void print_cohort(const struct cohort *c)
+{
+    printf("population %lu, bands of %zu, counts of %zu\n", (unsigned long)c->population, c->bands_len, c->counts_len);
+    print_numbers("aggregates", c->aggregates, c->count);
+    print_numbers("table", c->table, c->table_len);
+}
+
+static void same_placed(struct entry *e, struct shtegomir_placed a, struct second_placed b)
+{
+    same_refusal(e, a.refusal, a.place, b.refusal, b.place);
+    same("remainder", a.remainder, b.remainder);
+}
+
+static struct cohort cohort;
+static uint16_t bands[MOST + SPARE], other_bands[MOST + SPARE];
+static uint32_t counts[COUNTS + SPARE], other_counts[COUNTS + SPARE];
+
+static void compare_direct(struct entry *e)
+{
+    struct cohort *c = &cohort;
+    make_cohort(c, chance(90) ? below(40) : chance(80) ? below(200) : from(500, 512));
+    for (unsigned times = chance(40) ? from(1, 3) : 0; times > 0; times--)
+        damage_cohort(c, 512);
+    size_t size = c->bands_len * sizeof *bands;
+    fill(bands, other_bands, size);
+    struct shtegomir_placed a =
+        shtegomir_place_direct(c->aggregates, c->count, c->table, c->table_len, c->population, bands, c->bands_len);
+    same_placed(e, a, second_place_direct(c->aggregates, c->count, c->table, c->table_len, c->population, other_bands, c->bands_len));
+    same_buffer("bands", a.refusal, bands, other_bands, size);
+    if (differs)
+        print_cohort(c);
+}
+
+static void compare_tally(struct entry *e)
+{
+    struct cohort *c = &cohort;
+    make_cohort(c, chance(80) ? below(600) : chance(90) ? below(5000) : chance(50) ? MOST : from(20000, MOST));
+    for (unsigned times = chance(40) ? from(1, 3) : 0; times > 0; times--)
+        damage_cohort(c, MOST);
+    size_t size = c->bands_len * sizeof *bands, counts_size = c->counts_len * sizeof *counts;
+    fill(bands, other_bands, size);
+    fill(counts, other_counts, counts_size);
+    struct shtegomir_placed a = shtegomir_place_tally(c->aggregates, c->count, c->table, c->table_len, c->population, bands,
+                                                      c->bands_len, counts, c->counts_len);
+    same_placed(e, a,
+                second_place_tally(c->aggregates, c->count, c->table, c->table_len, c->population, other_bands, c->bands_len,
+                                   other_counts, c->counts_len));
+    same_buffer("bands", a.refusal, bands, other_bands, size);
+    same_buffer("counts", a.refusal, counts, other_counts, counts_size);
+    if (differs)
+        print_cohort(c);
+}
+
+/* ---- The report ---- */
+
+static struct seen seen;
+
+static void compare_report(struct entry *e)
+{
+    static struct file file;
+    size_t text_len = chance(96) ? TEXT_BYTES : ONE_OF(0, TEXT_BYTES - 1, TEXT_BYTES + 1);
+    make_file(&file);
+    for (unsigned times = chance(60) ? from(1, 3) : 0; times > 0; times--)
+        damage_file(&file);
+    differs = !same_report(&file, text_len, &seen);
+    e->inputs++;
+    memcpy(e->met, seen.calls, sizeof e->met);
+    if (!differs)
+        return;
+    printf("a text of %zu\n", text_len);
+    print_file(&file);
+}
+
+/* What the listings showed, of the files and of their students. */
+static int all_shown(void)
+{
+    struct entry files = {"files", 1 | 1 << 1 | 1 << 2 | 1 << 3 | 1 << 5 | 1 << 6 | 1 << 9 | 1 << 10 | 1 << 14, 0, {0}};
+    struct entry students = {"their students", 1 | 1 << 3 | 1 << 4 | 1 << 5 | 1 << 6 | 1 << 7 | 1 << 8, 0, {0}};
+    for (unsigned n = 0; n < NUMBERS; n++) {
+        files.inputs += files.met[n] = seen.files[n];
+        students.inputs += students.met[n] = seen.students[n];
+    }
+    int met = all_met(&files) & all_met(&students);
+    printf("cohorts of at least five eligible: %lu\n", seen.cohorts);
+    return met && seen.cohorts != 0;
+}
+
+/* ---- All of them ---- */
+
+static int run(const char *name, unsigned gives, void (*compare)(struct entry *), unsigned long inputs)
+{
+    struct entry e = {name, gives, 0, {0}};
+    while (e.inputs < inputs && !differs)
+        compare(&e);
+    if (!differs)
+        return all_met(&e);
+    printf("%s: the two differ at input %lu\n", name, e.inputs);
+    return 0;
+}
+
+int main(int arguments, char **argument)
+{
+    uint64_t seed = arguments > 1 ? strtoull(argument[1], NULL, 10) : (uint64_t)time(NULL);
+    seed_chance(seed);
+    printf("compare: seed %llu\n", (unsigned long long)seed);
+    int fine = run("best set", 1 | 1 << 1 | 1 << 2 | 1 << 3 | 1 << 4 | 1 << 5 | 1 << 6 | 1 << 7 | 1 << 8 | 1 << 11 | 1 << 14,
+                   compare_best_set, BEST_SETS) &&
+               run("curve", 1 | 1 << 9 | 1 << 10 | 1 << 11, compare_curve, CURVES) &&
+               run("ranks", 1 | 1 << 2 | 1 << 11, compare_ranks, RANKINGS) &&
+               run("direct bands", 1 | 1 << 2 | 1 << 9 | 1 << 11 | 1 << 12 | 1 << 13, compare_direct, DIRECT) &&
+               run("bands by tally", 1 | 1 << 2 | 1 << 9 | 1 << 11 | 1 << 12 | 1 << 13, compare_tally, TALLIES) &&
+               run("report", 1 | 1 << 11, compare_report, REPORTS) && all_shown();
+    printf(fine ? "compare: no difference\n" : "compare: failed, seed %llu\n", (unsigned long long)seed);
+    return !fine;
+}

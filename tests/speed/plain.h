@@ -1,0 +1,28 @@
+/* The same jobs in plain C, as one would write them without proofs: they judge what the library judges, in the same order, and give
+ * its answers.
+ */
+#ifndef PLAIN_H
+#define PLAIN_H
+
+#include "shtegomir.h"
+
+struct shtegomir_best plain_best_set(const uint8_t *catalogue, size_t catalogue_len, const uint8_t *table, size_t table_len,
+                                     uint32_t year, const uint8_t *results, size_t results_len);
+
+struct shtegomir_curve plain_participation(const uint32_t *figures, size_t figures_len, uint32_t *table, size_t table_len);
+
+/* Sorts by the C library's qsort; its room comes from malloc. */
+struct shtegomir_ranked plain_rank(const uint32_t *values, size_t values_len, uint32_t *ranks, size_t ranks_len,
+                                   uint32_t *percentiles, size_t percentiles_len);
+
+struct shtegomir_placed plain_place_direct(const uint32_t *aggregates, size_t aggregates_len, const uint32_t *table,
+                                           size_t table_len, uint32_t population, uint16_t *bands, size_t bands_len);
+
+struct shtegomir_placed plain_place_tally(const uint32_t *aggregates, size_t aggregates_len, const uint32_t *table,
+                                          size_t table_len, uint32_t population, uint16_t *bands, size_t bands_len,
+                                          uint32_t *counts, size_t counts_len);
+
+/* Bands by tally, whose counts are kept from call to call: they are the faster ones for a full file too. */
+struct shtegomir_text plain_report(const uint8_t *file, size_t file_len, uint8_t *text, size_t text_len);
+
+#endif
