@@ -1,13 +1,13 @@
 -- The sets that the search allows, over masks, are the paper's admissible sets, over results; and what the search finds is what the promise asks.
-use Prim.Native.Nat.{ℕ, zero, suc, _+_, _/_, _%_, _^_, _≤_, _<_}
+use Prim.Native.Nat.{ℕ, zero, suc, _+_, _/_, _%_, _≤_, _<_}
 use native.Mathlib.Decide.{ℕ-discrete}
 use native.Mathlib.Omega.{arith}
 use mathlib.Core.Path.{_≡_, refl, sym, ap, ap₂, subst, _∙_}
 use mathlib.Core.Bool.{Bool, true, false, not, _&&_, true≢false}
-use mathlib.Core.Logic.{_⊎_, inl, inr}
+use mathlib.Core.Logic.{_⊎_, inl, inr, ⊎-elim}
 use mathlib.Core.List.{List, [], _∷_, _++_}
 use lib.Dec.{ltb}
-use borrow.Author.Tests.{ltb-true, leb-false, eqb-true, eq-eqb, ne-eqb}
+use borrow.Author.Tests.{ltb-true, ltb-false, leb-false, eqb-true, eq-eqb, ne-eqb}
 use Rattle.paper.specs.Lists.{pick, some}
 use Rattle.paper.specs.Rulings.{Outcome, accepted, refused, _⇒_, _at_, judged, inTurn}
 use Rattle.paper.specs.Refusals.{fault}
@@ -17,60 +17,63 @@ use Rattle.paper.proofs.Ruled.{Kept, all-kept, kept-parts, kept-turns, after-ke
 use Rattle.subjects.specs.Catalogue.{subjects, isIdentified, catalogueRules}
 use Rattle.subjects.proofs.Promised.{kept-sound}
 use Rattle.paper.proofs.Booleans.{both-true, true-both}
-use Rattle.bestset.specs.Sets.{In, has, joined as inFront, onesFrom, positions, sumOver, countOver}
+use Rattle.bestset.specs.Sets.{In, has, onesFrom, positions, sumOver, countOver, total}
 use Rattle.bestset.specs.Results.{held, subjectOf, kindOf, identityOf}
 use Rattle.bestset.specs.Reading.{score, identity}
 use Rattle.bestset.specs.Counting.{Student, general, applied, ofStrand, usable, english, later, kept}
 use Rattle.bestset.specs.Admissible.{NotBoth, OneEach, Admissible}
 use Rattle.bestset.specs.Rules.{resultRules, lengthRules, repeatRule, studentRules}
 use Rattle.bestset.specs.Promise.{Values, said, WellFormed, ruling, Answered, Owed, Promise}
-use Rattle.bestset.specs.Masked.{Apart, Distinct, Allowed, Holds, Answers}
-use Rattle.bestset.specs.Screening.{Masked}
+use Rattle.bestset.specs.Masked.{Holds, Masked, Apart, Distinct, Allowed, Answers}
+use Rattle.bestset.specs.Trying.{valueAt, ByPosition, Sought}
 use Rattle.bestset.specs.declared.Answer.{Answer}
 use Rattle.bestset.specs.declared.Answer.the-variants.{Refused}
 use Rattle.bestset.specs.declared.search.Masks.{Masks}
 use Rattle.bestset.specs.declared.search.Best.{Best}
 use Rattle.bestset.specs.declared.search.Best.the-variants.{Chosen as found, Nothing}
-use Rattle.bestset.proofs.Digits.{in-lt}
-use Rattle.bestset.proofs.Tops.{answers-iff}
+use Rattle.bestset.proofs.Digits.{digit, bit-zero, bit-suc, ones-from-0, ones-from-1}
+use Rattle.bestset.proofs.Tops.{answers-iff, answers-sum}
+use Rattle.bestset.proofs.Scores.{score-most, read-most}
 
 -- ---- at least four General
 
--- sums over positions below i + k, of what is the same for each of them
-module _ (f g : ℕ → ℕ) where
-  same-front : (d i : ℕ) (l : List ℕ) → f i ≡ g i → sumOver f l ≡ sumOver g l → sumOver f (inFront d i l) ≡ sumOver g (inFront d i l)
-  unfolding sumOver
-  same-front zero i l e h = h
-  same-front (suc d) i l e h = ap₂ (λ (x y : ℕ). x + y) e h
+-- sums over the members of a set, of what is the same for each of them
+pub same-sum : (f g : ℕ → ℕ) (k i n : ℕ) → ((j m : ℕ) → m ≡ i + j → In j n → f m ≡ g m) → sumOver f (onesFrom k i n) ≡ sumOver g (onesFrom k i n)
+unfolding onesFrom sumOver
+same-sum f g zero i n h = refl
+same-sum f g (suc k) i n h =
+    let rest = same-sum f g k (suc i) (n / 2) (λ j m e p. h (suc j) m (omega arith) (bit-suc j n ∙ p)) in
+    ⊎-elim
+    (λ (e : n % 2 ≡ 0). rw (ones-from-0 k i n e) rest)
+    (λ (e : n % 2 ≡ 1). rw (ones-from-1 k i n e) (ap₂ (λ (x y : ℕ). x + y) (h 0 i (omega arith) (bit-zero n ∙ e)) rest))
+    (digit n)
 
-  pub same-sum : (k i n : ℕ) → ((j : ℕ) → j < i + k → f j ≡ g j) → sumOver f (onesFrom k i n) ≡ sumOver g (onesFrom k i n)
-  unfolding onesFrom sumOver
-  same-sum zero i n h = refl
-  same-sum (suc k) i n h = same-front (n % 2) i (onesFrom k (suc i) (n / 2)) (h i (omega arith)) (same-sum k (suc i) (n / 2) (λ j l. h j (omega arith)))
+pub same-total : (f g : ℕ → ℕ) (set : ℕ) → ((i : ℕ) → In i set → f i ≡ g i) → total f set ≡ total g set
+same-total f g set h = same-sum f g 16 0 set (λ j m e p. let d : m ≡ j = omega arith in rw d (h j p))
 
 -- a mask holds the results of a test: as many members of a set are in the mask as have the test
-module _ (f : ℕ → Bool) (mask : ℕ) (h : Holds (λ i. f i ≡ true) mask) where
-  pub has-test : (i : ℕ) → i < 16 → has mask i ≡ f i
+module _ (f : ℕ → Bool) (n mask : ℕ) (h : Holds f n mask) where
+  pub has-test : (i : ℕ) → i < n → has mask i ≡ f i
   has-test i l = go (f i) refl
     where
       go : (b : Bool) → f i ≡ b → has mask i ≡ b
       go true e = eq-eqb _ _ (h .whole i l e)
       go false e = ne-eqb _ _ (λ p. true≢false (sym (h .sound i p) ∙ e))
 
-  pub count-test : (set : ℕ) → countOver (has mask) (positions set) ≡ countOver f (positions set)
+  pub count-test : (set : ℕ) → ((i : ℕ) → In i set → i < n) → countOver (has mask) (positions set) ≡ countOver f (positions set)
   unfolding countOver
-  count-test set = same-sum (λ i. pick (has mask i) 1 0) (λ i. pick (f i) 1 0) 16 0 set (λ i l. ap (λ (b : Bool). pick b 1 0) (has-test i l))
+  count-test set within = same-total (λ i. pick (has mask i) 1 0) (λ i. pick (f i) 1 0) set (λ i p. ap (λ (b : Bool). pick b 1 0) (has-test i (within i p)))
 
 -- ---- not both a General and an Applied of a strand
 
-module _ (n : ℕ) (s : Student) (one other set : ℕ) (g : Holds (λ i. (general s i && ofStrand n s i) ≡ true) one) (a : Holds (λ i. (applied s i && ofStrand n s i) ≡ true) other) where
-  apart-not-both : set < 2 ^ 16 → Apart one other set → NotBoth n s set
-  apart-not-both h d i j p q x y u v = d i j p (g .whole i (in-lt 16 set i h p) (true-both _ _ x y)) q (a .whole j (in-lt 16 set j h q) (true-both _ _ u v))
+module _ (k : ℕ) (s : Student) (n one other set : ℕ) (g : Holds (λ i. general s i && ofStrand k s i) n one) (a : Holds (λ i. applied s i && ofStrand k s i) n other) where
+  apart-not-both : ((i : ℕ) → In i set → i < n) → Apart one other set → NotBoth k s set
+  apart-not-both within d i j p q x y u v = d i j p (g .whole i (within i p) (true-both _ _ x y)) q (a .whole j (within j q) (true-both _ _ u v))
 
-  not-both-apart : NotBoth n s set → Apart one other set
+  not-both-apart : NotBoth k s set → Apart one other set
   not-both-apart d i j p x q y =
-      let u = both-true (general s i) (ofStrand n s i) (g .sound i x) in
-      let v = both-true (applied s j) (ofStrand n s j) (a .sound j y) in
+      let u = both-true (general s i) (ofStrand k s i) (g .sound i x) in
+      let v = both-true (applied s j) (ofStrand k s j) (a .sound j y) in
       d i j p q (u .0) (u .1) (v .0) (v .1)
 
 -- ---- no two of kinds 1 or 3 with one identity
@@ -85,17 +88,22 @@ unfolding kept
 kept-held s i e = usable-held s i (both-true (usable s i) (not (some (held (s .results)) (later s i))) e .0)
 
 module _ (s : Student) (table : List ℕ) (w : WellFormed s table) where
-  -- a well-formed student breaks no rule of the catalogue, nor one of a result
-  pub rules-kept : Kept (catalogueRules (s .catalogue)) × ((i : ℕ) → i < held (s .results) → Kept (resultRules s table i))
+  -- a well-formed student breaks no rule of the catalogue, none of lengths, nor one of a result
+  pub rules-kept : Kept (catalogueRules (s .catalogue)) × Kept (lengthRules s table) × ((i : ℕ) → i < held (s .results) → Kept (resultRules s table i))
   rules-kept =
       let turns = inTurn (held (s .results)) (resultRules s table) in
       let rest = turns ++ (repeatRule s ∷ []) in
       let k = kept-parts (catalogueRules (s .catalogue)) (lengthRules s table ++ rest) (all-kept (studentRules s table) tt tt w) in
-      (k .0, kept-turns (held (s .results)) (resultRules s table) (kept-parts turns (repeatRule s ∷ []) (kept-parts (lengthRules s table) rest (k .1) .1) .0))
+      let l = kept-parts (lengthRules s table) rest (k .1) in
+      (k .0, l .0, kept-turns (held (s .results)) (resultRules s table) (kept-parts turns (repeatRule s ∷ []) (l .1) .0))
 
-  -- so the subject of each result is in the catalogue
+  -- so at most 16 results are held
+  pub few-held : held (s .results) ≤ 16
+  few-held = ltb-false 16 (held (s .results)) (rules-kept .1 .1 .1 .1 .0)
+
+  -- the subject of each result is in the catalogue
   pub subject-known : (i : ℕ) → i < held (s .results) → subjectOf (s .results) i < subjects (s .catalogue)
-  subject-known i l = leb-false (subjects (s .catalogue)) (subjectOf (s .results) i) (rules-kept .1 i l .0)
+  subject-known i l = leb-false (subjects (s .catalogue)) (subjectOf (s .results) i) (rules-kept .2 i l .0)
 
   -- and a kept result of kinds 1 or 3 has an identity
   pub identity-known : (i : ℕ) → kept s i ≡ true → isIdentified (kindOf (s .catalogue) (s .results) i) ≡ true → 1 ≤ identityOf (s .catalogue) (s .results) i
@@ -125,32 +133,38 @@ each-distinct s set d i j l p q =
     go true false x y n e = e
     go true true x y n e = absurd (n refl refl e)
 
+-- what holds of identities holds of others that are the same for each member
+same-distinct : (f g : ℕ → ℕ) (set : ℕ) → ((i : ℕ) → In i set → f i ≡ g i) → Distinct f set → Distinct g set
+same-distinct f g set e d i j l p q h = sym (e i p) ∙ d i j l p q (e i p ∙ h ∙ sym (e j q))
+
 -- ---- the admissible sets
 
-module _ (s : Student) (masks : Masks) (m : Masked s masks) where
-  pub allowed-admissible : (table : List ℕ) → WellFormed s table → (set : ℕ) → Allowed masks (identity (s .catalogue) (s .results)) set → Admissible s set
+module _ (s : Student) (masks : Masks) (m : Masked s (held (s .results)) masks) (identities : List ℕ)
+    (k : ByPosition (identity (s .catalogue) (s .results)) (held (s .results)) identities) where
+  pub allowed-admissible : (table : List ℕ) → WellFormed s table → (set : ℕ) → Allowed masks (valueAt identities) set → Admissible s set
   allowed-admissible table w set a =
       let each : (i : ℕ) → In i set → kept s i ≡ true = λ i p. m .kept-is .sound i (a .kept i p) in
+      let within : (i : ℕ) → In i set → i < held (s .results) = λ i p. kept-held s i (each i p) in
       record {
         bits = a .small;
         five = a .five;
         each = each;
-        four = omega (arith, count-test (general s) (masks .general) (m .general-is) set, a .general);
-        englishes = apart-not-both 1 s _ _ set (m .general-english) (m .applied-english) (a .small) (a .english);
-        mathematics = apart-not-both 2 s _ _ set (m .general-maths) (m .applied-maths) (a .small) (a .maths);
-        identities = distinct-each s table w set each (a .distinct);
+        four = omega (arith, count-test (general s) _ (masks .general) (m .general-is) set within, a .general);
+        englishes = apart-not-both 1 s _ _ _ set (m .general-english) (m .applied-english) within (a .english);
+        mathematics = apart-not-both 2 s _ _ _ set (m .general-maths) (m .applied-maths) within (a .maths);
+        identities = distinct-each s table w set each (same-distinct _ _ set (λ i p. k .each i (within i p)) (a .distinct));
       }
 
-  pub admissible-allowed : (set : ℕ) → Admissible s set → Allowed masks (identity (s .catalogue) (s .results)) set
+  pub admissible-allowed : (set : ℕ) → Admissible s set → Allowed masks (valueAt identities) set
   admissible-allowed set a =
       record {
         small = a .bits;
-        kept = λ i p. m .kept-is .whole i (in-lt 16 set i (a .bits) p) (a .each i p);
+        kept = λ i p. m .kept-is .whole i (kept-held s i (a .each i p)) (a .each i p);
         five = a .five;
-        general = omega (arith, count-test (general s) (masks .general) (m .general-is) set, a .four);
-        english = not-both-apart 1 s _ _ set (m .general-english) (m .applied-english) (a .englishes);
-        maths = not-both-apart 2 s _ _ set (m .general-maths) (m .applied-maths) (a .mathematics);
-        distinct = each-distinct s set (a .identities);
+        general = omega (arith, count-test (general s) _ (masks .general) (m .general-is) set (λ i p. kept-held s i (a .each i p)), a .four);
+        english = not-both-apart 1 s _ _ _ set (m .general-english) (m .applied-english) (a .englishes);
+        maths = not-both-apart 2 s _ _ _ set (m .general-maths) (m .applied-maths) (a .mathematics);
+        distinct = same-distinct _ _ set (λ i p. sym (k .each i (kept-held s i (a .each i p)))) (each-distinct s set (a .identities));
       }
 
 -- ---- what the search finds
@@ -167,13 +181,26 @@ module _ (s : Student) (table : List ℕ) where
       record { admissible = t .right; aggregate = sym e; most = λ u a. omega (arith, t .most u a); first = λ u a h. t .first u a (h ∙ e) }
   best-answered Nothing n = (refl, n)
 
-  -- is what a well-formed student with English shown is owed
-  pub found-answered : WellFormed s table → (masks : Masks) → Masked s masks → (b : Best)
-      → Answers (Allowed masks (identity (s .catalogue) (s .results))) (score (s .catalogue) table (s .results)) b → Answered s table (outcome b)
-  found-answered w masks m b a =
-      best-answered b
-      (answers-iff (Allowed masks (identity (s .catalogue) (s .results))) (Admissible s) (score (s .catalogue) table (s .results))
-      (allowed-admissible s masks m table w) (admissible-allowed s masks m) b a)
+  module _ (w : WellFormed s table) (masks : Masks) (m : Masked s (held (s .results)) masks) (scores identities : List ℕ)
+      (k : ByPosition (score (s .catalogue) table (s .results)) (held (s .results)) scores)
+      (l : ByPosition (identity (s .catalogue) (s .results)) (held (s .results)) identities) where
+    -- what the search is given
+    pub sought : Sought (masks .kept) scores (held (s .results))
+    sought =
+        record {
+          few = few-held s table w;
+          among = λ i p. kept-held s i (m .kept-is .sound i p);
+          most = read-most (score (s .catalogue) table (s .results)) (held (s .results)) 10000 scores k (score-most (s .catalogue) table (s .results));
+        }
+
+    -- what it finds is what a well-formed student with English shown is owed
+    pub found-answered : (b : Best) → Answers (Allowed masks (valueAt identities)) (valueAt scores) b → Answered s table (outcome b)
+    found-answered b a =
+        best-answered b
+        (answers-sum (Admissible s) (valueAt scores) (score (s .catalogue) table (s .results))
+        (λ t d. same-total (valueAt scores) (score (s .catalogue) table (s .results)) t (λ i p. k .each i (kept-held s i (d .each i p)))) b
+        (answers-iff (Allowed masks (valueAt identities)) (Admissible s) (valueAt scores)
+        (allowed-admissible s masks m identities l table w) (admissible-allowed s masks m identities l) b a))
 
   -- ---- the promise, by its ruling
 

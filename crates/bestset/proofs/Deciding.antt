@@ -1,14 +1,12 @@
 -- The test of a set decides whether it is admissible.
-use Prim.Native.Nat.{ℕ, zero, suc, _+_, _/_, _<_, _≤_, _^_}
-use native.Mathlib.Omega.{arith}
-use mathlib.Core.Path.{_≡_, refl, sym, ap, subst, _∙_}
+use Prim.Native.Nat.{ℕ, _<_, _^_}
+use mathlib.Core.Path.{_≡_, refl, sym, _∙_}
 use mathlib.Core.Bool.{Bool, true, false, not, _&&_, true≢false}
 use lib.Dec.{leb, ltb, eqb}
 use lib.ListN.{length}
-use borrow.Author.Tests.{ltb-true, leb-true, eqb-true, lt-ltb, le-leb, eq-eqb, not-true, not-false}
-use Rattle.paper.specs.Lists.{some}
+use borrow.Author.Tests.{ltb-true, leb-true, eqb-true, lt-ltb, le-leb, eq-eqb, not-true}
 use Rattle.paper.proofs.Booleans.{both-true, true-both, not-both, true-not}
-use Rattle.paper.proofs.Firsts.{some-has, some-at, none-has, some-not}
+use Rattle.paper.proofs.Firsts.{some-has, some-at}
 use Rattle.bestset.specs.Sets.{In, has, positions, countOver}
 use Rattle.bestset.specs.Results.{identityOf}
 use Rattle.bestset.specs.Counting.{Student, general, applied, ofStrand, kept}

@@ -1,6 +1,6 @@
 -- Laws of a set's bits and of its positions.
 use Prim.Native.Nat.{ℕ, zero, suc, _+_, _-_, _*_, _/_, _%_, _^_, _≤_, _<_, min}
-use native.Mathlib.Nat.{div-one, div-eq-of-lt, lt-of-not-le, lt-of-lt-of-le, lt-of-le-of-lt, add-zero, add-suc, suc-add, zero-add}
+use native.Mathlib.Nat.{eq-or-lt-of-le, div-one, div-eq-of-lt, div-lt-iff-lt-mul, mod-eq-of-lt, mod-lt, lt-of-not-le, lt-of-lt-of-le, lt-of-le-of-lt, add-zero, add-suc, suc-add, zero-add}
 use native.Mathlib.Numerals.{add-one, one-add}
 use native.Mathlib.Omega.{arith}
 use mathlib.Core.Path.{_≡_, refl, sym, ap, _∙_}
@@ -8,7 +8,7 @@ use mathlib.Core.Logic.{_⊎_, inl, inr, ⊎-elim}
 use mathlib.Core.List.{_∷_}
 use lib.ListN.{length}
 use lib.Arith.{lt-one}
-use lib.Pow.{pow-pos, pow-mono, shr-shr, high, shl-exact}
+use lib.Pow.{pow-pos, pow-mono, split, shr-shr, high, shl-exact}
 use lib.Bits.{bitAnd, and-step, and-high, and-shr, and-zero-l, and-le-l, block-half, block-odd}
 use lib.Count.{ones, onesIn, ones-step}
 use Rattle.paper.specs.Lists.{pick}
@@ -38,6 +38,26 @@ in-lt k m i h e =
     let y : bit i m ≡ 0 = ap (λ (x : ℕ). x % 2) z in
     omega arith)
 
+-- a bit above every other is the highest
+pub high-bit : (k m : ℕ) → m < 2 ^ suc k → m / 2 ^ k ≡ bit k m
+high-bit k m h = sym (mod-eq-of-lt (div-lt-iff-lt-mul (pow-pos k) .1 (omega arith)))
+
+pub no-high : (k m : ℕ) → m < 2 ^ suc k → bit k m ≡ 0 → m < 2 ^ k
+no-high k m h z =
+    let s = split m k in
+    let y : m / 2 ^ k * 2 ^ k ≡ 0 = ap (λ (x : ℕ). x * 2 ^ k) (high-bit k m h ∙ z) ∙ omega arith in
+    let l = mod-lt m (pow-pos k) in
+    omega arith
+
+-- a set whose members are all below n is below 2 ^ n
+pub all-below : (k n t : ℕ) → t < 2 ^ k → ((i : ℕ) → In i t → i < n) → t < 2 ^ n
+all-below zero n t h all = omega (arith, pow-pos n)
+all-below (suc k) n t h all =
+    ⊎-elim
+    (λ (z : bit k t ≡ 0). all-below k n t (no-high k t h z) all)
+    (λ (z : bit k t ≡ 1). let m = pow-mono {i = suc k} {j = n} (all k z) in omega arith)
+    (digit (t / 2 ^ k))
+
 -- the empty set has no member
 pub in-none : (i : ℕ) → In i 0 → ⊥
 in-none i p = let l = in-lt 0 0 i (omega arith) p in omega arith
@@ -51,6 +71,14 @@ low-bit (suc i) (suc k) d r h =
 
 pub top-bit : (k d r : ℕ) → r < 2 ^ k → bit k (d * 2 ^ k + r) ≡ d % 2
 top-bit k d r h = ap (λ (x : ℕ). x % 2) (high d k h)
+
+-- a member of a set with n on top is n, or a member of the set
+pub in-joined : (n m i : ℕ) → m < 2 ^ n → In i (1 * 2 ^ n + m) → (i ≡ n) ⊎ In i m
+in-joined n m i l p =
+    ⊎-elim
+    (λ (e : suc i ≡ suc n). inl (omega arith))
+    (λ (e : suc i < suc n). inr (sym (low-bit i n 1 m (omega arith)) ∙ p))
+    (eq-or-lt-of-le (in-lt (suc n) (1 * 2 ^ n + m) i (omega arith) p))
 
 -- a number that is not 0 has a member
 has-bit : (k m : ℕ) → m < 2 ^ k → 0 < m → (i : ℕ) × In i m

@@ -1,59 +1,33 @@
 -- The computed answer is permitted, and no other is.
-use Prim.Native.Nat.{ℕ, zero, suc, _*_, _/_, _%_, _<_, _≤_, _^_}
-use native.Mathlib.Omega.{arith}
-use native.Mathlib.Decide.{decLt}
-use native.Mathlib.Nat.{div-mul-le-self, lt-div-mul-add}
+use Prim.Native.Nat.{ℕ, _<_, _^_}
 use mathlib.Core.Path.{_≡_, refl, sym, ap, subst, _∙_}
 use mathlib.Core.Bool.{not}
 use mathlib.Core.List.{List, [], _∷_, _++_}
-use lib.Pow.{pow-pos, pow-mono}
-use borrow.Author.Tests.{ltb-false}
+use lib.Pow.{pow-mono}
 use Rattle.paper.specs.Rulings.{Outcome, accepted, refused, _⇒_, _at_, inTurn}
-use Rattle.paper.proofs.Ruled.{all-kept, Tabled, Refusing, tabled, tabled-join, tabled-turns}
-use Rattle.bestset.specs.Sets.{In}
+use Rattle.paper.proofs.Ruled.{all-kept, kept-all, kept-parts, Tabled, Refusing, tabled, tabled-join, tabled-turns}
 use Rattle.bestset.specs.Results.{held}
 use Rattle.bestset.specs.Counting.{Student, english}
 use Rattle.bestset.specs.Admissible.{Admissible}
 use Rattle.bestset.specs.Rules.{resultRules, repeatRule, studentRules}
-use Rattle.bestset.specs.Promise.{Values, said, ruling, comesTo, Answered, Owed, Promise}
+use Rattle.bestset.specs.Promise.{Values, said, WellFormed, ruling, comesTo, Answered, Owed, Promise}
 use Rattle.bestset.specs.Computed.{Choice, none, one, chosen, admissible, told, decided, computed, answer}
 use Rattle.bestset.specs.declared.Answer.{Answer}
-use Rattle.bestset.proofs.Bridge.{kept-held}
+use Rattle.bestset.proofs.Digits.{all-below}
+use Rattle.bestset.proofs.Bridge.{kept-held, few-held}
 use Rattle.bestset.proofs.Choosing.{Led, chosen-led}
 use Rattle.bestset.proofs.Deciding.{test-admissible, admissible-test}
 use Rattle.bestset.proofs.Promised.{determined}
 
--- a number whose members are all below n is below 2 ^ n
-half : (k t : ℕ) → t < 2 ^ suc k → (In k t → ⊥) → t < 2 ^ k
-half k t h no-k = go (t / 2 ^ k) refl
-  where
-    pos : 0 < 2 ^ k
-    pos = pow-pos k
-
-    go : (q : ℕ) → t / 2 ^ k ≡ q → t < 2 ^ k
-    go zero e = omega (arith, lt-div-mul-add {a = t} pos, ap (λ (x : ℕ). x * 2 ^ k) e)
-    go (suc zero) e = absurd (no-k (ap (λ (x : ℕ). x % 2) e))
-    go (suc (suc q)) e =
-        let l : suc (suc q) * 2 ^ k ≤ t = subst (λ (x : ℕ). x * 2 ^ k ≤ t) e (div-mul-le-self t (2 ^ k)) in
-        absurd (omega arith)
-
-below : (k n t : ℕ) → t < 2 ^ k → ((i : ℕ) → In i t → i < n) → t < 2 ^ n
-below zero n t h all = omega (arith, pow-pos n)
-below (suc k) n t h all = go (decLt k n) (λ g. below k n t g all)
-  where
-    go : Dec (k < n) → (t < 2 ^ k → t < 2 ^ n) → t < 2 ^ n
-    go (yes l) r = omega (arith, pow-mono l)
-    go (no l) r = r (half k t h (λ m. l (all k m)))
-
--- so an admissible set is one of the results held
+-- an admissible set is one of the results held
 set-held : (s : Student) (set : ℕ) → Admissible s set → set < 2 ^ held (s .results)
-set-held s set h = below 16 (held (s .results)) set (h .bits) (λ i m. kept-held s i (h .each i m))
+set-held s set h = all-below 16 (held (s .results)) set (h .bits) (λ i m. kept-held s i (h .each i m))
 
--- what is accepted up to 7 has at most 16 results
-few-held : (s : Student) (table : List ℕ) (u : Unit {0}) → ruling s table ≡ accepted u → held (s .results) ≤ 16
-few-held s table u e =
-    let k = all-kept (studentRules s table ++ (not (english s) ⇒ 7 at 0 ∷ [])) tt u e in
-    ltb-false 16 (held (s .results)) (k .1 .1 .1 .1 .1 .1 .0)
+-- what is accepted up to 7 is well-formed
+accepted-formed : (s : Student) (table : List ℕ) (u : Unit {0}) → ruling s table ≡ accepted u → WellFormed s table
+accepted-formed s table u e =
+    let seven = not (english s) ⇒ 7 at 0 ∷ [] in
+    kept-all (studentRules s table) tt (kept-parts (studentRules s table) seven (all-kept (studentRules s table ++ seven) tt u e) .0)
 
 -- the choice among all sets of the results is what is asked
 module _ (s : Student) (table : List ℕ) where
@@ -74,7 +48,7 @@ module _ (s : Student) (table : List ℕ) where
       go (refused f) e = refl
       go (accepted u) e =
           choice-answers (chosen (admissible s) (comesTo s table) (2 ^ held (s .results)))
-          (chosen-led (admissible s) (comesTo s table) (2 ^ held (s .results)) (pow-mono (few-held s table u e)))
+          (chosen-led (admissible s) (comesTo s table) (2 ^ held (s .results)) (pow-mono (few-held s table (accepted-formed s table u e))))
 
   -- each rule gives a number and place of the paper's table
   rules-tabled : Tabled (studentRules s table ++ (not (english s) ⇒ 7 at 0 ∷ []))

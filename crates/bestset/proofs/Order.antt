@@ -12,6 +12,7 @@ use lib.Arith.{lt-one, bin-ind}
 use lib.Pow.{pow-pos, split, mod-pow-add}
 use lib.Count.{ones, ones-step, ones-cat}
 use Rattle.bestset.specs.Sets.{onesFrom, positions, Earlier}
+use Rattle.bestset.specs.Trying.{key}
 use Rattle.bestset.proofs.Digits.{digit, ones-from-0, ones-from-1, same-positions}
 
 -- ---- dictionary order is a total order
@@ -26,9 +27,6 @@ asym (x ∷ xs) (y ∷ ys) p q =
     (λ (a : x < y). ⊎-elim (λ (b : y < x). omega arith) (λ (b : (y ≡ x) × Earlier ys xs). omega arith) q)
     (λ (a : (x ≡ y) × Earlier xs ys). ⊎-elim (λ (b : y < x). omega arith) (λ (b : (y ≡ x) × Earlier ys xs). asym xs ys (a .1) (b .1)) q)
     p
-
-pub irrefl : (xs : List ℕ) → Earlier xs xs → ⊥
-irrefl xs p = asym xs xs p p
 
 pub trans : (xs ys zs : List ℕ) → Earlier xs ys → Earlier ys zs → Earlier xs zs
 unfolding Earlier
@@ -63,11 +61,6 @@ pub either : (s t : ℕ) → s < 2 ^ 16 → t < 2 ^ 16 → (s ≡ t → ⊥) →
 either s t h l n = ⊎-elim (λ e. absurd (n (same-positions s t h l e))) (λ e. e) (compare (positions s) (positions t))
 
 -- ---- keys
-
--- the k lowest digits of m, the lowest first
-unfoldable pub key : ℕ → ℕ → ℕ
-key zero m = 0
-key (suc k) m = (m % 2) * 2 ^ k + key k (m / 2)
 
 pub key-lt : (k m : ℕ) → key k m < 2 ^ k
 unfolding key

@@ -1,37 +1,46 @@
 -- The steps of the search, over any score and any admissibility. The search goes down in the keys of the sets.
 use Prim.Native.Nat.{ℕ, suc, _+_, _-_, _*_, _/_, _%_, _^_, _≤_, _<_}
-use native.Mathlib.Nat.{mod-eq-of-lt, mod-lt, le-refl, div-lt-iff-lt-mul, eq-or-lt-of-le}
+use native.Mathlib.Nat.{mod-lt, le-refl}
 use native.Mathlib.Decide.{decLe}
 use native.Mathlib.Numerals.{add-one}
 use native.Mathlib.Omega.{arith}
 use mathlib.Core.Path.{_≡_, sym, ap, ap₂, _∙_, subst}
 use mathlib.Core.Logic.{_⊎_, inl, inr, ⊎-elim}
 use lib.ListN.{length}
-use lib.Pow.{pow-pos, split}
+use lib.Pow.{pow-pos, pow-mono, split, shr-lt}
 use lib.Bits.{bitOr, bitXor, or-shifted-r, xor-block, xor-zero-r}
-use lib.Count.{ones}
+use lib.Count.{ones, ones-ones, ones-cat, ones-le}
+use mathlib.Core.List.{List}
 use Rattle.bestset.specs.Sets.{bit, In, positions, total}
-use Rattle.bestset.specs.Masked.{Beats, Answers}
+use Rattle.bestset.specs.Masked.{Allowed, Beats, Answers}
+use Rattle.bestset.specs.Trying.{valueAt, Sought, key, room, From, Tried, Before, Stands, Bettered}
+use Rattle.bestset.specs.declared.search.Masks.{Masks}
 use Rattle.bestset.specs.declared.search.Best.{Best}
 use Rattle.bestset.specs.declared.search.Best.the-variants.{Chosen, Nothing}
-use Rattle.bestset.proofs.Digits.{in-lt, in-none, low-bit, top-bit, one-shl, total-join, total-none}
-use Rattle.bestset.proofs.Order.{key, key-lt, key-zero, key-join, key-within, earlier, grown}
+use Rattle.bestset.proofs.Digits.{high-bit, no-high, all-below, in-lt, in-none, in-joined, low-bit, top-bit, one-shl, total-most, total-join, total-none}
+use Rattle.bestset.proofs.Order.{key-lt, key-zero, key-join, key-within, earlier, grown}
 use Rattle.bestset.proofs.Meets.{length-set}
 use Rattle.bestset.proofs.Tops.{answers-iff, answers-more, answers-same}
 
--- what the search asks of an admissibility
-pub record Fives (Adm : ℕ → Type 0) (mask : ℕ) : Type 0 where
-  pub small : (t : ℕ) → Adm t → t < 2 ^ 16
+-- ---- the admissible sets
+
+-- what the search asks of an admissibility: sets of five of the kept among the results held
+pub record Fives (Adm : ℕ → Type 0) (mask held : ℕ) : Type 0 where
+  pub few : held ≤ 16
+  pub below : (t : ℕ) → Adm t → t < 2 ^ held
   pub five : (t : ℕ) → Adm t → length (positions t) ≡ 5
   pub kept : (t : ℕ) → Adm t → (i : ℕ) → In i t → In i mask
 
+pub fives : (masks : Masks) (identities : ℕ → ℕ) {scores : List ℕ} {held : ℕ} → Sought (masks .kept) scores held → Fives (Allowed masks identities) (masks .kept) held
+fives masks identities {held = held} w =
+    record {
+      few = w .few;
+      below = λ t a. all-below 16 held t (a .small) (λ i p. w .among i (a .kept i p));
+      five = λ t a. a .five;
+      kept = λ t a. a .kept;
+    }
+
 -- ---- the sets whose key is at least m
-
-abbrev pub From : (ℕ → Type 0) → ℕ → ℕ → Type 0
-From Adm m t = (m ≤ key 16 t) × Adm t
-
-abbrev pub Tried : (ℕ → Type 0) → (ℕ → ℕ) → ℕ → Best → Type 0
-Tried Adm score m b = Answers (From Adm m) score b
 
 under : (m n : ℕ) → (m ≤ n) ⊎ (n < m)
 under m n = go (decLe m n)
@@ -74,18 +83,8 @@ module _ (Adm : ℕ → Type 0) (score : ℕ → ℕ) where
 
 -- ---- where the search stands
 
--- the sets of this key or a greater one have been tried
-pub room : ℕ → ℕ → ℕ
-room at set = key 16 set + 2 ^ (16 - at)
-
 pub left : ℕ → ℕ → ℕ
 left at set = room at set * 32 + (16 - at)
-
--- a set of kept results before result `at`
-pub record At (mask at set : ℕ) : Type 0 where
-  pub low : at ≤ 16
-  pub small : set < 2 ^ at
-  pub kept : (i : ℕ) → In i set → In i mask
 
 room-start : 2 ^ 16 ≤ room 0 0
 unfolding room
@@ -100,12 +99,20 @@ half-room at h =
     let e : 2 ^ (16 - at) ≡ 2 ^ suc (16 - suc at) = ap (λ (n : ℕ). 2 ^ n) (omega arith) in
     omega arith
 
--- ---- a result joins, or is passed over
-
 pub next : (at set : ℕ) → at < 16 → set < 2 ^ at → bitOr set (1 * 2 ^ at % 65536) ≡ 1 * 2 ^ at + set
 next at set h l =
     let o : 2 ^ at ≡ 1 * 2 ^ at = omega arith in
     ap (bitOr set) (one-shl at h ∙ o) ∙ or-shifted-r 1 at set l
+
+ones-next : (at set : ℕ) → set < 2 ^ at → ones (1 * 2 ^ at + set) ≡ ones set + 1
+ones-next at set l = let c = ones-cat at 1 set l in let o = ones-ones 1 in omega arith
+
+-- the key of a set that a result joined
+key-next : (at set : ℕ) → at < 16 → set < 2 ^ at → key 16 (1 * 2 ^ at + set) ≡ room (suc at) set
+unfolding room
+key-next at set h l =
+    let o : 1 * 2 ^ at + set ≡ 2 ^ at + set = omega arith in
+    ap (key 16) o ∙ key-join at 16 set h l
 
 -- every set of the keys that go on from a set with a result has that result
 goes-on : (at set t : ℕ) → at < 16 → set < 2 ^ at → key 16 set + 2 ^ (16 - suc at) ≤ key 16 t → key 16 t < key 16 set + 2 ^ (16 - at) → In at t
@@ -119,224 +126,214 @@ goes-on at set t h l p q =
     let o : 2 ^ at + set ≡ 1 * 2 ^ at + set = omega arith in
     b ∙ ap (bit at) (m ∙ o) ∙ top-bit at 1 set l
 
-module _ {mask at set : ℕ} (h : at < 16) (a : At mask at set) where
-  join-at : In at mask → At mask (suc at) (1 * 2 ^ at + set)
+module _ {mask held at set : ℕ} (h : at < held) (a : Before mask held at set) where
+  join-at : In at mask → Before mask held (suc at) (1 * 2 ^ at + set)
   join-at b =
       let l = a .small in
       record {
-        low = omega arith;
+        low = h;
         small = omega arith;
-        kept = λ i p.
-            let g = in-lt (suc at) (1 * 2 ^ at + set) i (omega arith) p in
-            ⊎-elim
-            (λ (e : suc i ≡ suc at). let f : at ≡ i = omega arith in subst (λ (n : ℕ). In n mask) f b)
-            (λ (e : suc i < suc at). a .kept i (sym (low-bit i at 1 set (omega arith)) ∙ p))
-            (eq-or-lt-of-le g);
+        kept = λ i p. ⊎-elim (λ (e : i ≡ at). subst (λ (n : ℕ). In n mask) (sym e) b) (a .kept i) (in-joined at set i l p);
       }
 
-  join-room : room (suc at) (1 * 2 ^ at + set) ≡ room at set
-  unfolding room
-  join-room =
-      let o : 1 * 2 ^ at + set ≡ 2 ^ at + set = omega arith in
-      let k = ap (key 16) o ∙ key-join at 16 set h (a .small) in
-      let e = half-room at h in
-      omega arith
-
-  skip-at : At mask (suc at) set
-  skip-at = let l = a .small in record { low = omega arith; small = omega arith; kept = a .kept }
-
-  skip-none : {Adm : ℕ → Type 0} → Fives Adm mask → bit at mask ≡ 0
-      → (t : ℕ) → room (suc at) set ≤ key 16 t → key 16 t < room at set → Adm t → ⊥
-  unfolding room
-  skip-none fives b t p q d =
-      let i = goes-on at set t h (a .small) p q in
-      let k = fives .kept t d at i in
-      omega arith
-
--- ---- back to the last member
-
--- a bit above every other is the set's highest
-high-bit : (k m : ℕ) → m < 2 ^ suc k → m / 2 ^ k ≡ bit k m
-high-bit k m h = sym (mod-eq-of-lt (div-lt-iff-lt-mul (pow-pos k) .1 (omega arith)))
-
-module _ {mask k set : ℕ} (a : At mask (suc k) set) where
-  past : bit k set ≡ 0 → At mask k set
-  past z =
-      let e = high-bit k set (a .small) in
-      let s = split set k in
-      let y : set / 2 ^ k * 2 ^ k ≡ 0 = ap (λ (x : ℕ). x * 2 ^ k) (e ∙ z) ∙ omega arith in
-      let l = mod-lt set (pow-pos k) in
-      let g = a .low in
-      record { low = omega arith; small = omega arith; kept = a .kept }
-
-  module _ (b : In k set) where
-    cut : set ≡ 1 * 2 ^ k + set % 2 ^ k
-    cut = sym (split set k) ∙ ap (λ (x : ℕ). x * 2 ^ k + set % 2 ^ k) (high-bit k set (a .small) ∙ b)
-
-    cut-xor : bitXor set (1 * 2 ^ k % 65536) ≡ set % 2 ^ k
-    cut-xor =
-        let g = a .low in
-        let o : 2 ^ k ≡ 1 * 2 ^ k + 0 = omega arith in
-        let p = pow-pos k in
-        ap₂ bitXor cut (one-shl k (omega arith) ∙ o) ∙ xor-block k 1 1 (set % 2 ^ k) 0 (mod-lt set (pow-pos k)) (omega arith)
-        ∙ ap (λ (x : ℕ). 0 * 2 ^ k + x) (xor-zero-r (set % 2 ^ k)) ∙ omega arith
-
-    cut-at : At mask (suc k) (set % 2 ^ k)
-    cut-at =
-        let g = a .low in
-        let l = mod-lt set (pow-pos k) in
-        record {
-          low = omega arith;
-          small = omega arith;
-          kept = λ i p.
-              let lt = in-lt k (set % 2 ^ k) i l p in
-              a .kept i (ap (bit i) cut ∙ low-bit i k 1 (set % 2 ^ k) lt ∙ p);
-        }
-
-    cut-total : (score : ℕ → ℕ) → total score set ≡ total score (set % 2 ^ k) + score k
-    cut-total score = ap (total score) cut ∙ total-join score k (set % 2 ^ k) (a .low) (mod-lt set (pow-pos k))
-
-    cut-room : room (suc k) (set % 2 ^ k) ≡ key 16 set
-    unfolding room
-    cut-room =
-        let o : 2 ^ k + set % 2 ^ k ≡ 1 * 2 ^ k + set % 2 ^ k = omega arith in
-        sym (key-join k 16 (set % 2 ^ k) (a .low) (mod-lt set (pow-pos k))) ∙ ap (key 16) (o ∙ sym cut)
+  skip-at : Before mask held (suc at) set
+  skip-at = let l = a .small in record { low = h; small = omega arith; kept = a .kept }
 
 -- ---- the steps as the code takes them
 
--- the search stands at a set: its place, its sum, and the best of the sets of key m or more
-pub record Stands (Adm : ℕ → Type 0) (score : ℕ → ℕ) (mask m : ℕ) (best : Best) (at set sum : ℕ) : Type 0 where
-  pub place : At mask at set
-  pub worth : sum ≡ total score set
-  pub tried : Tried Adm score m best
-
--- it went on from one set to another, and less is left
-pub record Stepped (Adm : ℕ → Type 0) (score : ℕ → ℕ) (mask : ℕ) (best : Best) (at set at′ set′ sum′ : ℕ) : Type 0 where
-  pub stands : Stands Adm score mask (room at′ set′) best at′ set′ sum′
-  pub less : left at′ set′ < left at set
-
-pub starts : (Adm : ℕ → Type 0) (score : ℕ → ℕ) (mask : ℕ) → Stands Adm score mask (room 0 0) Nothing 0 0 0
-starts Adm score mask =
+module _ {Adm : ℕ → Type 0} {score : ℕ → ℕ} {mask held : ℕ} where
+  pub starts : (ones 0 ≤ 3) × Stands Adm score mask held (room 0 0) Nothing 0 0 0
+  starts = (
+    let z = ones-ones 0 in omega arith,
     record {
       place = record { low = omega arith; small = omega arith; kept = λ i p. absurd (in-none i p) };
       worth = total-none score;
       tried = tried-none Adm score (room 0 0) room-start;
-    }
+    },
+  )
 
-module _ {Adm : ℕ → Type 0} {score : ℕ → ℕ} {mask : ℕ} {best : Best} {at set sum : ℕ} where
-  module _ (fives : Fives Adm mask) (s : Stands Adm score mask (room at set) best at set sum) where
-    -- result `at` joins, or is passed over
-    module _ (h : at < 16) {set′ sum′ : ℕ} where
-      pub joins : In at mask → set′ ≡ bitOr set (1 * 2 ^ at % 65536) → sum′ ≡ sum + score at → Stepped Adm score mask best at set (at + 1) set′ sum′
-      unfolding left
-      joins d e f =
-          let r = join-room h (s .place) in
-          let t = total-join score at set h (s .place .small) in
-          let w = s .worth in
-          rw (e ∙ next at set h (s .place .small), add-one at) (record {
-            stands = record {
+  module _ (fives : Fives Adm mask held) {best : Best} {at set sum : ℕ} (s : Stands Adm score mask held (room at set) best at set sum) where
+    within : at ≤ 16
+    within = let f = fives .few in let l = s .place .low in omega arith
+
+    -- the admissible sets that go on from the set
+    ahead : (t : ℕ) → key 16 set ≤ key 16 t → key 16 t < room at set → t % 2 ^ at ≡ set
+    unfolding room
+    ahead t p q = key-within at 16 set t within (s .place .small) p q
+
+    -- too few results are left
+    pub short : ones set + held < 5 + at → Tried Adm score (key 16 set) best
+    short few =
+        let m = room-more at set in
+        tried-lower Adm score (room at set) (key 16 set) best (omega arith)
+        (λ t p q d.
+        let l = s .place .low in
+        let k : held ≡ held - at + at = omega arith in
+        let e = ap (λ (n : ℕ). 2 ^ n) k in
+        let b = fives .below t d in
+        let more = ones-le (held - at) (t / 2 ^ at) (shr-lt (held - at) at (omega arith)) in
+        let c = ones-cat at (t / 2 ^ at) (t % 2 ^ at) (mod-lt t (pow-pos at)) in
+        let whole = ap ones (split t at) in
+        let low = ap ones (ahead t p q) in
+        let five = fives .five t d in
+        let w : 2 ^ held ≤ 2 ^ 16 = pow-mono (fives .few) in
+        let o = length-set t (omega arith) in
+        omega arith) (s .tried)
+
+    -- a set of five is tried
+    module _ (z : 5 ≤ ones set) where
+      leaf : (t : ℕ) → key 16 set ≤ key 16 t → key 16 t < room at set → Adm t → t ≡ set
+      leaf t p q d =
+          let f = fives .five t d in
+          let b = fives .below t d in
+          let w : 2 ^ held ≤ 2 ^ 16 = pow-mono (fives .few) in
+          let o = length-set t (omega arith) in
+          grown at set t (ahead t p q) (omega arith)
+
+      pub bettered : {best′ : Best} → Bettered Adm best set sum best′ → Tried Adm score (key 16 set) best′
+      bettered (inl (f, e, ok)) =
+          subst (λ (b : Best). Tried Adm score (key 16 set) b) (sym (f ∙ ap (λ (x : ℕ). Chosen x set) (s .worth)))
+          (tried-beats Adm score (room at set) set (room-more at set) leaf ok best (subst (λ (x : ℕ). Beats best x) (s .worth) e) (s .tried))
+      bettered (inr (f, e)) =
+          let m = room-more at set in
+          subst (λ (b : Best). Tried Adm score (key 16 set) b) (sym f)
+          (⊎-elim
+          (λ n.
+          tried-keeps Adm score (room at set) set m leaf (fives .five) best
+          (subst (λ (x : ℕ). Beats best x → ⊥) (s .worth) n) (s .tried))
+          (λ n.
+          tried-lower Adm score (room at set) (key 16 set) best (omega arith)
+          (λ t p q d. n (subst Adm (leaf t p q d) d)) (s .tried))
+          e)
+
+    module _ (h : at < held) where
+      under-16 : at < 16
+      under-16 = let f = fives .few in omega arith
+
+      -- past result `at`
+      passed : {best′ : Best} → Tried Adm score (room (suc at) set) best′ → Stands Adm score mask held (room (at + 1) set) best′ (at + 1) set sum
+      passed w = rw (add-one at) (record { place = skip-at h (s .place); worth = s .worth; tried = w })
+
+      -- result `at` is passed over
+      pub skips : bit at mask ≡ 0 → Stands Adm score mask held (room (at + 1) set) best (at + 1) set sum
+      unfolding room
+      skips d =
+          let g = half-room at under-16 in
+          passed
+          (tried-lower Adm score (room at set) (room (suc at) set) best (omega arith)
+          (λ t p q a.
+          let i = goes-on at set t under-16 (s .place .small) p q in
+          let k = fives .kept t a at i in
+          omega arith) (s .tried))
+
+      module _ (d : In at mask) {set′ : ℕ} (e : set′ ≡ bitOr set (1 * 2 ^ at % 65536)) where
+        set-is : set′ ≡ 1 * 2 ^ at + set
+        set-is = e ∙ next at set under-16 (s .place .small)
+
+        pub more : ones set′ ≡ ones set + 1
+        more = ap ones set-is ∙ ones-next at set (s .place .small)
+
+        pub still-kept : (i : ℕ) → In i set′ → In i mask
+        still-kept = rw set-is (join-at h (s .place) d .kept)
+
+        -- it joins
+        pub joins : {sum′ : ℕ} → sum′ ≡ sum + score at → Stands Adm score mask held (room (at + 1) set′) best (at + 1) set′ sum′
+        unfolding room
+        joins f =
+            let t = total-join score at set under-16 (s .place .small) in
+            let w = s .worth in
+            let k = key-next at set under-16 (s .place .small) in
+            let g = half-room at under-16 in
+            rw (set-is, add-one at) (record {
               place = join-at h (s .place) d;
               worth = omega arith;
-              tried = subst (λ (m : ℕ). Tried Adm score m best) (sym r) (s .tried);
-            };
-            less = omega arith;
-          })
+              tried = subst (λ (m : ℕ). Tried Adm score m best) (omega arith) (s .tried);
+            })
 
-      pub skips : bit at mask ≡ 0 → set′ ≡ set → sum′ ≡ sum → Stepped Adm score mask best at set (at + 1) set′ sum′
-      unfolding left room
-      skips d e f =
-          let g = half-room at h in
-          let p = pow-pos (16 - suc at) in
-          rw (e, add-one at) (record {
-            stands = record {
-              place = skip-at h (s .place);
-              worth = f ∙ s .worth;
-              tried = tried-lower Adm score (room at set) (room (suc at) set) best (omega arith) (skip-none h (s .place) fives d) (s .tried);
-            };
-            less = omega arith;
-          })
+        -- all that go on from the set with it have been tried
+        pub after : {best′ : Best} → Tried Adm score (key 16 set′) best′ → Stands Adm score mask held (room (at + 1) set) best′ (at + 1) set sum
+        after {best′} w = passed (subst (λ (m : ℕ). Tried Adm score m best′) (ap (key 16) set-is ∙ key-next at set under-16 (s .place .small)) w)
 
-    -- nothing can join: the set is tried
-    module _ (z : (16 ≤ at) ⊎ (5 ≤ ones set)) where
-      leaf : (t : ℕ) → key 16 set ≤ key 16 t → key 16 t < room at set → Adm t → t ≡ set
-      unfolding room
-      leaf t p q d =
-          let w = key-within at 16 set t (s .place .low) (s .place .small) p q in
-          ⊎-elim
-          (λ (g : 16 ≤ at).
-          let l = s .place .low in
-          let e : at ≡ 16 = omega arith in
-          let u : t % 2 ^ 16 ≡ set = rw e at w in
-          sym (mod-eq-of-lt (fives .small t d)) ∙ u)
-          (λ (g : 5 ≤ ones set).
-          let f = fives .five t d in
-          let o = length-set t (fives .small t d) in
-          grown at set t w (omega arith))
-          z
+  -- a fifth result joins
+  pub fifth : Fives Adm mask held → {best best′ : Best} {at set sum set′ sum′ : ℕ} → Stands Adm score mask held (room at set) best at set sum → at < held
+      → In at mask → set′ ≡ bitOr set (1 * 2 ^ at % 65536) → sum′ ≡ sum + score at → ones set ≡ 4 → Bettered Adm best set′ sum′ best′
+      → Stands Adm score mask held (room (at + 1) set) best′ (at + 1) set sum
+  fifth fives s h d e f four b =
+      let o = more fives s h d e in
+      after fives s h d e (bettered fives (joins fives s h d e f) (omega arith) b)
 
-      pub wins : {best′ : Best} → Beats best sum → Adm set → best′ ≡ Chosen sum set → Stands Adm score mask (key 16 set) best′ at set sum
-      wins e ok f =
-          record {
-            place = s .place;
-            worth = s .worth;
-            tried = subst (λ (b : Best). Tried Adm score (key 16 set) b) (sym (f ∙ ap (λ (x : ℕ). Chosen x set) (s .worth)))
-                (tried-beats Adm score (room at set) set (room-more at set) leaf ok best (subst (λ (x : ℕ). Beats best x) (s .worth) e) (s .tried));
-          }
+  -- ---- back to the last member
 
-      pub loses : {best′ : Best} → (Beats best sum → ⊥) ⊎ (Adm set → ⊥) → best′ ≡ best → Stands Adm score mask (key 16 set) best′ at set sum
-      loses e f =
-          let m = room-more at set in
-          record {
-            place = s .place;
-            worth = s .worth;
-            tried = subst (λ (b : Best). Tried Adm score (key 16 set) b) (sym f)
-                (⊎-elim
-                (λ n.
-                tried-keeps Adm score (room at set) set m leaf (fives .five) best
-                (subst (λ (x : ℕ). Beats best x → ⊥) (s .worth) n) (s .tried))
-                (λ n.
-                tried-lower Adm score (room at set) (key 16 set) best (omega arith)
-                (λ t p q d. n (subst Adm (leaf t p q d) d)) (s .tried))
-                e);
-          }
+  module _ {best : Best} {at set sum : ℕ} (s : Stands Adm score mask held (key 16 set) best at set sum) where
+    module _ (few : held ≤ 16) (n : at ≡ 0 → ⊥) where
+      at-is : at ≡ suc (at - 1)
+      at-is = omega arith
 
-  -- the set has been tried
-  module _ (s : Stands Adm score mask (key 16 set) best at set sum) where
-    module _ (n : at ≡ 0 → ⊥) where
-      placed : At mask (suc (at - 1)) set
-      placed = let e : at ≡ suc (at - 1) = omega arith in subst (λ (k : ℕ). At mask k set) e (s .place)
+      small : set < 2 ^ suc (at - 1)
+      small = subst (λ (k : ℕ). set < 2 ^ k) at-is (s .place .small)
+
+      before : at - 1 < 16
+      before = let l = s .place .low in omega arith
 
       -- back past a result that is no member
-      pub back : bit (at - 1) set ≡ 0 → Stands Adm score mask (key 16 set) best (at - 1) set sum
-      back z = record { place = past placed z; worth = s .worth; tried = s .tried }
+      pub back : bit (at - 1) set ≡ 0 → Stands Adm score mask held (key 16 set) best (at - 1) set sum
+      back z =
+          let l = s .place .low in
+          record {
+            place = record { low = omega arith; small = no-high (at - 1) set small z; kept = s .place .kept };
+            worth = s .worth;
+            tried = s .tried;
+          }
 
       -- the last member leaves
       module _ (b : In (at - 1) set) where
-        out-total : total score set ≡ total score (bitXor set (1 * 2 ^ (at - 1) % 65536)) + score (at - 1)
-        out-total = rw (cut-xor placed b) (cut-total placed b score)
+        cut : set ≡ 1 * 2 ^ (at - 1) + set % 2 ^ (at - 1)
+        cut = sym (split set (at - 1)) ∙ ap (λ (x : ℕ). x * 2 ^ (at - 1) + set % 2 ^ (at - 1)) (high-bit (at - 1) set small ∙ b)
+
+        lower : set % 2 ^ (at - 1) < 2 ^ (at - 1)
+        lower = mod-lt set (pow-pos (at - 1))
+
+        cut-xor : bitXor set (1 * 2 ^ (at - 1) % 65536) ≡ set % 2 ^ (at - 1)
+        cut-xor =
+            let o : 2 ^ (at - 1) ≡ 1 * 2 ^ (at - 1) + 0 = omega arith in
+            let p = pow-pos (at - 1) in
+            ap₂ bitXor cut (one-shl (at - 1) before ∙ o) ∙ xor-block (at - 1) 1 1 (set % 2 ^ (at - 1)) 0 lower (omega arith)
+            ∙ ap (λ (x : ℕ). 0 * 2 ^ (at - 1) + x) (xor-zero-r (set % 2 ^ (at - 1))) ∙ omega arith
+
+        out-total : total score set ≡ total score (set % 2 ^ (at - 1)) + score (at - 1)
+        out-total = ap (total score) cut ∙ total-join score (at - 1) (set % 2 ^ (at - 1)) before lower
 
         pub out-most : score (at - 1) ≤ sum
         out-most = let t = out-total in let w = s .worth in omega arith
 
-        pub out : {at₀ set₀ sum′ : ℕ} → set ≡ set₀ → sum′ ≡ sum - score (at - 1)
-            → Stepped Adm score mask best at₀ set₀ (at - 1 + 1) (bitXor set (1 * 2 ^ (at - 1) % 65536)) sum′
-        unfolding left
-        out {at₀} {set₀} e f =
+        out-room : room (suc (at - 1)) (set % 2 ^ (at - 1)) ≡ key 16 set
+        out-room = sym (key-next (at - 1) (set % 2 ^ (at - 1)) before lower) ∙ ap (key 16) (sym cut)
+
+        pub out-fewer : ones (bitXor set (1 * 2 ^ (at - 1) % 65536)) < ones set
+        out-fewer = rw cut-xor (let o = ones-next (at - 1) (set % 2 ^ (at - 1)) lower in let c = ap ones cut in omega arith)
+
+        pub out : {sum′ : ℕ} → sum′ ≡ sum - score (at - 1)
+            → Stands Adm score mask held (room (at - 1 + 1) (bitXor set (1 * 2 ^ (at - 1) % 65536))) best (at - 1 + 1) (bitXor set (1 * 2 ^ (at - 1) % 65536)) sum′
+        out f =
             let t = out-total in
             let w = s .worth in
-            let r : room (at - 1 + 1) (bitXor set (1 * 2 ^ (at - 1) % 65536)) ≡ key 16 set =
-            rw (cut-xor placed b, add-one (at - 1)) (cut-room placed b)
-            in
-            let k = ap (key 16) e in
-            let m = room-more at₀ set₀ in
-            record {
-              stands = record {
-                place = rw (cut-xor placed b, add-one (at - 1)) (cut-at placed b);
-                worth = omega arith;
-                tried = subst (λ (m : ℕ). Tried Adm score m best) (sym r) (s .tried);
+            let l = s .place .low in
+            let p = lower in
+            rw (cut-xor, add-one (at - 1)) (record {
+              place = record {
+                low = omega arith;
+                small = omega arith;
+                kept = λ i p. s .place .kept i (ap (bit i) cut ∙ low-bit i (at - 1) 1 (set % 2 ^ (at - 1)) (in-lt (at - 1) (set % 2 ^ (at - 1)) i lower p) ∙ p);
               };
-              less = omega arith;
-            }
+              worth = omega arith;
+              tried = subst (λ (m : ℕ). Tried Adm score m best) (sym out-room) (s .tried);
+            })
+
+        -- less is left
+        pub out-less : (at₀ set₀ : ℕ) → set ≡ set₀ → left (at - 1 + 1) (bitXor set (1 * 2 ^ (at - 1) % 65536)) < left at₀ set₀
+        unfolding left
+        out-less at₀ set₀ e =
+            rw (cut-xor, add-one (at - 1)) (let r = out-room in let m = room-more at₀ set₀ in let k = ap (key 16) e in omega arith)
 
     -- back at the first result every set has been tried
     pub finish : at ≡ 0 → Answers Adm score best
@@ -345,3 +342,21 @@ module _ {Adm : ℕ → Type 0} {score : ℕ → ℕ} {mask : ℕ} {best : Best}
         let z : set ≡ 0 = omega arith in
         let k : key 16 set ≡ 0 = ap (key 16) z ∙ key-zero 16 in
         tried-all Adm score best (subst (λ (m : ℕ). Tried Adm score m best) k (s .tried))
+
+-- a sum and a score more fit
+pub sum-fits : {Adm : ℕ → Type 0} {mask held m : ℕ} {scores : List ℕ} {best : Best} {at set sum : ℕ} → Sought mask scores held
+    → Stands Adm (valueAt scores) mask held m best at set sum → (i : ℕ) → sum + valueAt scores i ≤ 200000
+sum-fits {scores = scores} {set = set} w s i = omega (arith, total-most (valueAt scores) 10000 (w .most) set, w .most i, s .worth)
+
+-- ---- less is left as results are passed over or join
+
+pub skip-less : (at set : ℕ) → at < 16 → left (at + 1) set < left at set
+unfolding left room
+skip-less at set h = let g = half-room at h in let p = pow-pos (16 - suc at) in rw (add-one at) (omega arith)
+
+pub join-less : (at set : ℕ) {set′ : ℕ} → at < 16 → set < 2 ^ at → set′ ≡ bitOr set (1 * 2 ^ at % 65536) → left (at + 1) set′ < left at set
+unfolding left room
+join-less at set h l e =
+    let k = key-next at set h l in
+    let g = half-room at h in
+    rw (e ∙ next at set h l, add-one at) (omega arith)

@@ -2,7 +2,7 @@
 use Prim.Native.Nat.{ℕ, _≤_}
 use native.Mathlib.Nat.{le-refl}
 use native.Mathlib.Omega.{arith}
-use mathlib.Core.Path.{_≡_, refl, sym, ap, ap₂}
+use mathlib.Core.Path.{_≡_, refl, sym, ap, _∙_}
 use mathlib.Core.Logic.{_⊎_, inl, inr, ⊎-elim}
 use Rattle.bestset.specs.Sets.{positions, total, Earlier, Top}
 use Rattle.bestset.specs.Masked.{Beats, Answers}
@@ -33,6 +33,17 @@ one-top {a = a} {s = s} {b = b} {t = t} p q =
 
 pub top-iff : {A B : ℕ → Type 0} {score : ℕ → ℕ} {a s : ℕ} → ((t : ℕ) → A t → B t) → ((t : ℕ) → B t → A t) → Top A score a s → Top B score a s
 top-iff {s = s} f g r = record { right = f s (r .right); sum = r .sum; most = λ t d. r .most t (g t d); first = λ t d. r .first t (g t d) }
+
+-- two scores by which each set comes to the same
+pub answers-sum : (A : ℕ → Type 0) (f g : ℕ → ℕ) → ((t : ℕ) → A t → total f t ≡ total g t) → (b : Best) → Answers A f b → Answers A g b
+answers-sum A f g e (Chosen a s) r =
+    record {
+      right = r .right;
+      sum = sym (e s (r .right)) ∙ r .sum;
+      most = λ t d. omega (arith, e t d, r .most t d);
+      first = λ t d h. r .first t d (e t d ∙ h);
+    }
+answers-sum A f g e Nothing r = r
 
 module _ (A B : ℕ → Type 0) (score : ℕ → ℕ) where
   pub answers-iff : ((t : ℕ) → A t → B t) → ((t : ℕ) → B t → A t) → (b : Best) → Answers A score b → Answers B score b

@@ -7,5 +7,6 @@ pub mod Rules
 pub mod Promise
 pub mod Computed
 pub mod Masked
+pub mod Trying
 pub mod Inner
 pub mod Screening

@@ -4,8 +4,8 @@ use mathlib.Core.Path.{_≡_}
 use mathlib.Core.Logic.{_⊎_}
 use mathlib.Core.Bool.{not}
 use mathlib.Core.List.{List, [], _∷_, _++_}
-use Rattle.paper.specs.Rulings.{Outcome, accepted, refused, Rule, _⇒_, _at_, judged}
-use Rattle.paper.specs.Refusals.{fault, refusal}
+use Rattle.paper.specs.Rulings.{Outcome, accepted, refused, _⇒_, _at_, judged}
+use Rattle.paper.specs.Refusals.{fault}
 use Rattle.bestset.specs.Sets.{positions, total, Earlier}
 use Rattle.bestset.specs.Reading.{score}
 use Rattle.bestset.specs.Counting.{Student, english}

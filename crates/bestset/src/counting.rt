@@ -71,8 +71,8 @@ pub(crate) fn english(catalogue: &[u8], results: &[u8], year: u64) -> bool
 pub(crate) fn again(catalogue: &[u8], results: &[u8], year: u64, i: usize, j: usize) -> bool
     ensures { λ r. ⌜ r ≡ again (student (now (catalogue .entry)) (now (results .entry)) year) i j ⌝ }
 {
-    usable(catalogue, results, year, j)
-        && reading::subject_at(results, j) == reading::subject_at(results, i)
+    reading::subject_at(results, j) == reading::subject_at(results, i)
+        && usable(catalogue, results, year, j)
 }
 
 // Whether result j is that, in a later year.

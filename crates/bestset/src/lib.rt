@@ -23,7 +23,10 @@ fn choose(catalogue: &[u8], table: &[u8], results: &[u8], year: u64) -> Answer
     ensures { λ r. ⌜ Answered (student (now (catalogue .entry)) (now (results .entry)) year) (now (table .entry)) (said r) ⌝ }
 {
     let masks = masks::masks_of(catalogue, results, year);
-    let best = search::search(catalogue, table, results, masks);
+    let numbers = reading::numbers_of(catalogue, table, results);
+    let scores = numbers.scores;
+    let identities = numbers.identities;
+    let best = search::search(masks, &scores, &identities, results.len() / 6);
     match best {
         Best::Nothing => Answer::Refused(Refusal::NoSet),
         Best::Chosen { total, set } => Answer::Accepted {

@@ -1,72 +1,70 @@
-// The masks of the 16 positions: bit i for position i, which may be past the student's results.
+// The masks of the results: bit i for result i.
 ghost use mathlib.Core.Path.{_≡_};
-ghost use mathlib.Core.Bool.{true};
+ghost use mathlib.Core.Bool.{_&&_};
+ghost use Prim.Native.Nat.{_≤_, _<_};
+ghost use Rattle.bestset.specs.Results.{held};
 ghost use Rattle.bestset.specs.Counting.{student};
-ghost use Rattle.bestset.specs.Masked.{Holds};
-ghost use Rattle.bestset.specs.Screening.{belongs, Masked};
+ghost use Rattle.bestset.specs.Masked.{marked, withOne, Masked};
 use crate::counting;
 use crate::reading;
 use crate::search::Masks;
 use subjects::entries;
 
-// The sorts of results that the rules of sets ask for.
-pub(crate) enum Sort {
-    Kept,
-    General,
-    GeneralEnglish,
-    AppliedEnglish,
-    GeneralMaths,
-    AppliedMaths,
-}
-
-// Whether a position is of the sort; past the results it reads subject 0, and is not kept.
-fn belongs(sort: Sort, catalogue: &[u8], results: &[u8], year: u64, i: usize) -> bool
-    ensures { λ r. ⌜ r ≡ belongs sort (student (now (catalogue .entry)) (now (results .entry)) year) i ⌝ }
+// A mask with result i, if it is of the sort.
+fn marked(mask: u16, i: usize, belongs: bool) -> u16
+    requires { ⌜ i < 16 ⌝ }
+    ensures { λ r. ⌜ r ≡ marked mask i belongs ⌝ }
 {
-    let kind = reading::kind_at(catalogue, results, i);
-    let strand = reading::strand_at(catalogue, results, i);
-    let general = entries::is_general(kind);
-    let applied = entries::is_applied(kind);
-    match sort {
-        Sort::Kept => counting::kept(catalogue, results, year, i),
-        Sort::General => general,
-        Sort::GeneralEnglish => general && strand == 1,
-        Sort::AppliedEnglish => applied && strand == 1,
-        Sort::GeneralMaths => general && strand == 2,
-        Sort::AppliedMaths => applied && strand == 2,
-    }
-}
-
-// The mask of a sort.
-fn mask_of(sort: Sort, catalogue: &[u8], results: &[u8], year: u64) -> u16
-    ensures { λ r. ⌜ Holds (λ i. belongs sort (student (now (catalogue .entry)) (now (results .entry)) year) i ≡ true) r ⌝ }
-{
-    let mut mask: u16 = 0;
-    let mut i: usize = 0;
-    while i < 16 {
-        if belongs(sort, catalogue, results, year, i) {
-            mask = mask | (1u16 << i);
-        }
-        i += 1;
+    if belongs {
+        return mask | (1u16 << i);
     }
     mask
 }
 
-pub(crate) fn masks_of(catalogue: &[u8], results: &[u8], year: u64) -> Masks
-    ensures { λ r. ⌜ Masked (student (now (catalogue .entry)) (now (results .entry)) year) r ⌝ }
+// Whether both hold.
+fn both(one: bool, other: bool) -> bool
+    ensures { λ r. ⌜ r ≡ (one && other) ⌝ }
 {
-    let kept = mask_of(Sort::Kept, catalogue, results, year);
-    let general = mask_of(Sort::General, catalogue, results, year);
-    let general_english = mask_of(Sort::GeneralEnglish, catalogue, results, year);
-    let applied_english = mask_of(Sort::AppliedEnglish, catalogue, results, year);
-    let general_maths = mask_of(Sort::GeneralMaths, catalogue, results, year);
-    let applied_maths = mask_of(Sort::AppliedMaths, catalogue, results, year);
+    one && other
+}
+
+// The masks with result i, kept or not, of this kind and strand.
+fn with_one(masks: Masks, i: usize, kept: bool, kind: u8, strand: u8) -> Masks
+    requires { ⌜ i < 16 ⌝ }
+    ensures { λ r. ⌜ r ≡ withOne masks i kept kind strand ⌝ }
+{
+    let general = entries::is_general(kind);
+    let applied = entries::is_applied(kind);
     Masks {
-        kept,
-        general,
-        general_english,
-        applied_english,
-        general_maths,
-        applied_maths,
+        kept: marked(masks.kept, i, kept),
+        general: marked(masks.general, i, general),
+        general_english: marked(masks.general_english, i, both(general, strand == 1)),
+        applied_english: marked(masks.applied_english, i, both(applied, strand == 1)),
+        general_maths: marked(masks.general_maths, i, both(general, strand == 2)),
+        applied_maths: marked(masks.applied_maths, i, both(applied, strand == 2)),
     }
+}
+
+// The masks of all results, in one pass.
+pub(crate) fn masks_of(catalogue: &[u8], results: &[u8], year: u64) -> Masks
+    requires { ⌜ held (now results) ≤ 16 ⌝ }
+    ensures { λ r. ⌜ Masked (student (now (catalogue .entry)) (now (results .entry)) year) (held (now (results .entry))) r ⌝ }
+{
+    let mut masks = Masks {
+        kept: 0,
+        general: 0,
+        general_english: 0,
+        applied_english: 0,
+        general_maths: 0,
+        applied_maths: 0,
+    };
+    let mut i: usize = 0;
+    while i < results.len() / 6 {
+        let kept = counting::kept(catalogue, results, year, i);
+        let kind = reading::kind_at(catalogue, results, i);
+        let strand = reading::strand_at(catalogue, results, i);
+        masks = with_one(masks, i, kept, kind, strand);
+        i += 1;
+    }
+    masks
 }

@@ -1,9 +1,10 @@
 // Results by their position. Past the end of the bytes every part of a result is 0.
 ghost use mathlib.Core.Path.{_≡_};
-ghost use Prim.Native.Nat.{_<_};
-ghost use Rattle.bestset.specs.Results.{subjectOf, letterOf, numberOf, yearOf, kindOf, strandOf, levelOf};
+ghost use Prim.Native.Nat.{_≤_, _<_};
+ghost use Rattle.bestset.specs.Results.{held, subjectOf, letterOf, numberOf, yearOf, kindOf, strandOf, levelOf};
 ghost use Rattle.bestset.specs.Reading.{score, identity, scoreFound};
 ghost use Rattle.bestset.specs.Inner.{ResultAt};
+ghost use Rattle.bestset.specs.Trying.{ByPosition};
 ghost use Rattle.subjects.specs.Promise.{looked};
 use paper::bytes;
 use subjects::entries;
@@ -70,7 +71,7 @@ pub(crate) fn level_at(catalogue: &[u8], results: &[u8], i: usize) -> u8
 }
 
 // The identity of kinds 1 and 3, 0 for the others.
-pub(crate) fn identity_at(catalogue: &[u8], results: &[u8], i: usize) -> u16
+fn identity_at(catalogue: &[u8], results: &[u8], i: usize) -> u16
     ensures { λ r. ⌜ r ≡ identity (now (catalogue .entry)) (now (results .entry)) i ⌝ }
 {
     if entries::is_identified(kind_at(catalogue, results, i)) {
@@ -98,7 +99,7 @@ fn hundredths(score: Scaled) -> u32
 }
 
 // The score of a result, 0 where there is none.
-pub(crate) fn score_at(catalogue: &[u8], table: &[u8], results: &[u8], i: usize) -> u32
+fn score_at(catalogue: &[u8], table: &[u8], results: &[u8], i: usize) -> u32
     ensures { λ r. ⌜ r ≡ score (now (catalogue .entry)) (now (table .entry)) (now (results .entry)) i ⌝ }
 {
     let slot = slot_at(catalogue, table, results, i);
@@ -107,4 +108,27 @@ pub(crate) fn score_at(catalogue: &[u8], table: &[u8], results: &[u8], i: usize)
         Slot::Missing => 0,
         Slot::Over => 0,
     }
+}
+
+// What the search reads of the results: scores and identities by position, 0 past them.
+pub(crate) struct Numbers {
+    pub(crate) scores: [u32; 16],
+    pub(crate) identities: [u16; 16],
+}
+
+// The numbers of all results, in one pass.
+pub(crate) fn numbers_of(catalogue: &[u8], table: &[u8], results: &[u8]) -> Numbers
+    requires { ⌜ held (now results) ≤ 16 ⌝ }
+    ensures { λ r. ⌜ ByPosition (score (now (catalogue .entry)) (now (table .entry)) (now (results .entry))) (held (now (results .entry))) (r .scores)
+        × ByPosition (identity (now (catalogue .entry)) (now (results .entry))) (held (now (results .entry))) (r .identities) ⌝ }
+{
+    let mut scores = [0u32; 16];
+    let mut identities = [0u16; 16];
+    let mut i: usize = 0;
+    while i < results.len() / 6 {
+        scores[i] = score_at(catalogue, table, results, i);
+        identities[i] = identity_at(catalogue, results, i);
+        i += 1;
+    }
+    Numbers { scores, identities }
 }

@@ -1,12 +1,13 @@
-// The search for the best set: those of five kept results are tried in dictionary order of their positions. Shorter sets are tried in between; none is admissible.
-ghost use Prim.Native.Nat.{ℕ, _<_};
-ghost use Rattle.bestset.specs.Reading.{score, identity};
+// The search for the best set: those of five kept results are tried in dictionary order of their positions, up to three members by stepping, the fourth and
+// the fifth by loops. `held` is the number of results.
+ghost use Prim.Native.Nat.{ℕ, _≤_, _<_};
+ghost use mathlib.Core.Path.{_≡_};
+ghost use lib.Count.{ones};
 ghost use Rattle.bestset.specs.Sets.{In};
-ghost use Rattle.bestset.specs.Masked.{Distinct, Repeated, Allowed, Decides, Beats, Answers};
-use crate::reading::identity_at;
-use crate::reading::score_at;
+ghost use Rattle.bestset.specs.Masked.{Below, Distinct, Repeated, Allowed, Decides, Beats, Answers};
+ghost use Rattle.bestset.specs.Trying.{valueAt, Sought, key, room, Tried, Stands, Bettered};
 
-// The positions of the kept results, and those of each sort: bit i for position i. Only a kept one is sure to be that of a result.
+// The kept results, and those of each sort that the rules of sets ask for: bit i for result i.
 pub(crate) struct Masks {
     pub(crate) kept: u16,
     pub(crate) general: u16,
@@ -16,23 +17,24 @@ pub(crate) struct Masks {
     pub(crate) applied_maths: u16,
 }
 
+// The best set so far with its sum, or none.
 pub(crate) enum Best {
     Chosen { total: u32, set: u16 },
     Nothing,
 }
 
 // Whether a member after result i has its identity.
-fn repeats_later(catalogue: &[u8], results: &[u8], set: u16, i: usize) -> bool
-    requires { ⌜ i < 16 ⌝ }
-    ensures { λ r. ⌜ Decides r (Repeated (identity (now (catalogue .entry)) (now (results .entry))) set i) ⌝ }
+fn repeats_later(identities: &[u16; 16], held: usize, set: u16, i: usize) -> bool
+    requires { ⌜ (i < 16) × (held ≤ 16) × Below held set ⌝ }
+    ensures { λ r. ⌜ Decides r (Repeated (valueAt (now (identities .entry))) set i) ⌝ }
 {
-    let own = identity_at(catalogue, results, i);
+    let own = identities[i];
     if own == 0 {
         return false;
     }
     let mut j: usize = i + 1;
-    while j < 16 {
-        if set & (1u16 << j) != 0 && identity_at(catalogue, results, j) == own {
+    while j < held {
+        if set & (1u16 << j) != 0 && identities[j] == own {
             return true;
         }
         j += 1;
@@ -41,12 +43,13 @@ fn repeats_later(catalogue: &[u8], results: &[u8], set: u16, i: usize) -> bool
 }
 
 // Whether no two members have one identity.
-fn distinct(catalogue: &[u8], results: &[u8], set: u16) -> bool
-    ensures { λ r. ⌜ Decides r (Distinct (identity (now (catalogue .entry)) (now (results .entry))) set) ⌝ }
+fn distinct(identities: &[u16; 16], held: usize, set: u16) -> bool
+    requires { ⌜ (held ≤ 16) × Below held set ⌝ }
+    ensures { λ r. ⌜ Decides r (Distinct (valueAt (now (identities .entry))) set) ⌝ }
 {
     let mut i: usize = 0;
-    while i < 16 {
-        if set & (1u16 << i) != 0 && repeats_later(catalogue, results, set, i) {
+    while i < held {
+        if set & (1u16 << i) != 0 && repeats_later(identities, held, set, i) {
             return false;
         }
         i += 1;
@@ -55,9 +58,9 @@ fn distinct(catalogue: &[u8], results: &[u8], set: u16) -> bool
 }
 
 // Whether a set of kept results is admissible.
-fn admissible(catalogue: &[u8], results: &[u8], masks: Masks, set: u16) -> bool
-    requires { ⌜ ((i : ℕ) → In i set → In i (masks .kept)) ⌝ }
-    ensures { λ r. ⌜ Decides r (Allowed masks (identity (now (catalogue .entry)) (now (results .entry))) set) ⌝ }
+fn admissible(masks: Masks, identities: &[u16; 16], held: usize, set: u16) -> bool
+    requires { ⌜ (held ≤ 16) × Below held (masks .kept) × ((i : ℕ) → In i set → In i (masks .kept)) ⌝ }
+    ensures { λ r. ⌜ Decides r (Allowed masks (valueAt (now (identities .entry))) set) ⌝ }
 {
     if u16::count_ones(set) != 5 {
         return false;
@@ -71,7 +74,7 @@ fn admissible(catalogue: &[u8], results: &[u8], masks: Masks, set: u16) -> bool
     if set & masks.general_maths != 0 && set & masks.applied_maths != 0 {
         return false;
     }
-    distinct(catalogue, results, set)
+    distinct(identities, held, set)
 }
 
 // Whether a sum is more than the best so far.
@@ -84,26 +87,107 @@ fn beats(best: Best, sum: u32) -> bool
     }
 }
 
+// The best with one set more.
+fn better(masks: Masks, identities: &[u16; 16], held: usize, best: Best, set: u16, sum: u32) -> Best
+    requires { ⌜ (held ≤ 16) × Below held (masks .kept) × ((i : ℕ) → In i set → In i (masks .kept)) ⌝ }
+    ensures { λ r. ⌜ Bettered (Allowed masks (valueAt (now (identities .entry)))) best set sum r ⌝ }
+{
+    if beats(best, sum) && admissible(masks, identities, held, set) {
+        return Best::Chosen { total: sum, set };
+    }
+    best
+}
+
+// The best with every set that goes on from a set of four by a result from `at` on.
+fn with_fifth(
+    masks: Masks,
+    scores: &[u32; 16],
+    identities: &[u16; 16],
+    held: usize,
+    best: Best,
+    set: u16,
+    sum: u32,
+    at: usize,
+) -> Best
+    requires { ⌜ Sought (masks .kept) (now scores) held × (ones set ≡ 4)
+        × Stands (Allowed masks (valueAt (now identities))) (valueAt (now scores)) (masks .kept) held (room at set) best at set sum ⌝ }
+    ensures { λ r. ⌜ Tried (Allowed masks (valueAt (now (identities .entry)))) (valueAt (now (scores .entry))) (key 16 set) r ⌝ }
+{
+    let mut best = best;
+    let mut i = at;
+    while i < held {
+        if masks.kept & (1u16 << i) != 0 {
+            best = better(
+                masks,
+                identities,
+                held,
+                best,
+                set | (1u16 << i),
+                sum + scores[i],
+            );
+        }
+        i += 1;
+    }
+    best
+}
+
+// The best with every set that goes on from a set of three by two results from `at` on.
+fn with_fourth(
+    masks: Masks,
+    scores: &[u32; 16],
+    identities: &[u16; 16],
+    held: usize,
+    best: Best,
+    set: u16,
+    sum: u32,
+    at: usize,
+) -> Best
+    requires { ⌜ Sought (masks .kept) (now scores) held × (ones set ≡ 3)
+        × Stands (Allowed masks (valueAt (now identities))) (valueAt (now scores)) (masks .kept) held (room at set) best at set sum ⌝ }
+    ensures { λ r. ⌜ Tried (Allowed masks (valueAt (now (identities .entry)))) (valueAt (now (scores .entry))) (key 16 set) r ⌝ }
+{
+    let mut best = best;
+    let mut i = at;
+    while i + 1 < held {
+        if masks.kept & (1u16 << i) != 0 {
+            let four = set | (1u16 << i);
+            best = with_fifth(
+                masks,
+                scores,
+                identities,
+                held,
+                best,
+                four,
+                sum + scores[i],
+                i + 1,
+            );
+        }
+        i += 1;
+    }
+    best
+}
+
 // The best of the admissible sets, the first of those that tie.
-pub(crate) fn search(catalogue: &[u8], table: &[u8], results: &[u8], masks: Masks) -> Best
-    ensures { λ r. ⌜ Answers (Allowed masks (identity (now (catalogue .entry)) (now (results .entry))))
-        (score (now (catalogue .entry)) (now (table .entry)) (now (results .entry))) r ⌝ }
+pub(crate) fn search(masks: Masks, scores: &[u32; 16], identities: &[u16; 16], held: usize) -> Best
+    requires { ⌜ Sought (masks .kept) (now scores) held ⌝ }
+    ensures { λ r. ⌜ Answers (Allowed masks (valueAt (now (identities .entry)))) (valueAt (now (scores .entry))) r ⌝ }
 {
     let mut best = Best::Nothing;
     let mut set: u16 = 0;
     let mut sum: u32 = 0;
     let mut at: usize = 0;
     'sets: loop {
-        if at < 16 && u16::count_ones(set) < 5 {
-            // result `at` joins, if it is kept
+        let members = u16::count_ones(set) as usize;
+        if members < 3 && at + 5 <= held + members {
+            // members and results left can come to five: result `at` joins, if it is kept
             if masks.kept & (1u16 << at) != 0 {
                 set = set | (1u16 << at);
-                sum += score_at(catalogue, table, results, at);
+                sum += scores[at];
             }
             at += 1;
         } else {
-            if beats(best, sum) && admissible(catalogue, results, masks, set) {
-                best = Best::Chosen { total: sum, set };
+            if members == 3 {
+                best = with_fourth(masks, scores, identities, held, best, set, sum, at);
             }
             // the last member leaves, and the results after it are open again
             'back: loop {
@@ -113,7 +197,7 @@ pub(crate) fn search(catalogue: &[u8], table: &[u8], results: &[u8], masks: Mask
                 at -= 1;
                 if set & (1u16 << at) != 0 {
                     set = set ^ (1u16 << at);
-                    sum -= score_at(catalogue, table, results, at);
+                    sum -= scores[at];
                     at += 1;
                     break 'back;
                 }

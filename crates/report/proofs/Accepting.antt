@@ -1,21 +1,19 @@
 -- The inner calls of curve, ranks and bands never refuse.
-use Prim.Native.Nat.{ℕ, _*_, _≤_, _<_}
+use Prim.Native.Nat.{ℕ, _≤_, _<_}
 use native.Mathlib.Omega.{arith}
 use mathlib.Core.Path.{_≡_, refl, sym, ap, subst, _∙_}
-use mathlib.Core.Bool.{true, false, not, _&&_}
-use mathlib.Core.List.{List, [], _∷_}
+use mathlib.Core.Bool.{false}
+use mathlib.Core.List.{List}
 use lib.ListN.{length, getD}
-use lib.Dec.{ltb, eqb}
 use borrow.Author.Tests.{le-ltb, eq-eqb, ne-eqb}
 use Rattle.paper.specs.Lists.{over, someOver}
-use Rattle.paper.specs.Rulings.{Outcome, accepted}
+use Rattle.paper.specs.Rulings.{accepted}
 use Rattle.paper.proofs.Firsts.{none-has}
 use Rattle.paper.specs.declared.refusal.Refusal.{Refusal}
 use Rattle.curve.specs.Population.{Y, rate}
 use Rattle.curve.specs.Promise.{values, ruling as curveRuling, Promise as CurvePromise, left as tableLeft}
 use Rattle.curve.specs.Meaning.{Counted, Curved}
 use Rattle.curve.specs.declared.Answer.{Answer as CurveAnswer}
-use Rattle.curve.specs.declared.Answer.the-variants.{Accepted as Known}
 use Rattle.curve.proofs.Promised.{only as curve-only}
 use Rattle.curve.proofs.Means.{counted, curved}
 use Rattle.ranks.specs.Promise.{ruling as ranksRuling, Promise as RanksPromise, ranksLeft, percentilesLeft}
@@ -27,7 +25,7 @@ use Rattle.bands.specs.declared.Answer.{Answer as BandsAnswer}
 use Rattle.bands.specs.declared.Answer.the-variants.{Accepted as Placed, Refused as Turned}
 use Rattle.bands.proofs.Promised.{only-accepted as bands-only}
 use Rattle.report.specs.Report.{Columns, participation, columnsOf}
-use Rattle.report.specs.Inner.{Even, Populated, Placeable, columns}
+use Rattle.report.specs.Inner.{Populated, Placeable, columns}
 
 -- a list with no number over a limit
 within-over : (limit : ℕ) (xs : List ℕ) → ((i : ℕ) → i < length xs → getD xs i 0 ≤ limit) → someOver limit xs ≡ false

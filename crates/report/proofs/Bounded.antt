@@ -1,7 +1,7 @@
 -- An aggregate is at most 50000 hundredths: five scores of at most 10000.
 use Prim.Native.Nat.{ℕ, zero, suc, _*_, _≤_}
 use native.Mathlib.Omega.{arith}
-use mathlib.Core.Path.{_≡_, refl, sym, ap, subst, _∙_}
+use mathlib.Core.Path.{_≡_, refl, sym, subst, _∙_}
 use mathlib.Core.List.{List, [], _∷_}
 use lib.ListN.{length, getD, take, replicate, length-replicate}
 use lib.Seq.{length-take-le}
@@ -9,7 +9,7 @@ use Rattle.paper.specs.Rulings.{Outcome, accepted, refused}
 use Rattle.bestset.specs.Sets.{positions, sumOver}
 use Rattle.bestset.specs.Reading.{score}
 use Rattle.bestset.specs.Counting.{Student as One, student}
-use Rattle.bestset.specs.Promise.{Values, ruling, comesTo, Chosen, Answered, Owed}
+use Rattle.bestset.specs.Promise.{Values, ruling, Chosen, Answered, Owed}
 use Rattle.bestset.specs.Computed.{computed}
 use Rattle.bestset.proofs.Meeting.{computed-owed}
 use Rattle.bestset.proofs.Scores.{score-most}
@@ -46,16 +46,16 @@ aggregates-most catalogue table year (s ∷ ss) i = go (computed (student catalo
     go (accepted v) e h (suc i) = h i
 
 -- so aggregates that are collected are ranked and placed, with a buffer of zeros for each column
-pub collected-placeable : (catalogue table : List ℕ) (year n : ℕ) (ids counts results figures : List ℕ) (population : ℕ) (buffer : List ℕ) (m : ℕ) → n ≤ 512
-    → Populated figures population → Collected (outcome catalogue table year) n counts results buffer m
+pub collected-placeable : (catalogue table : List ℕ) (year n : ℕ) (ids counts results figures : List ℕ) (population : ℕ) (buffer marks : List ℕ) (m : ℕ) → n ≤ 512
+    → Populated figures population → Collected (outcome catalogue table year) n counts results buffer marks m
     → Placeable figures population (columns (take m buffer) (take m (replicate 512 0)) (take m (replicate 512 0)) (take m (replicate 512 0)))
-collected-placeable catalogue table year n ids counts results figures population buffer m h p w =
+collected-placeable catalogue table year n ids counts results figures population buffer marks m h p w =
     let long : length (take m buffer) ≡ m = length-take-le m buffer (omega (arith, w .long, w .within)) in
     let zeros : length (replicate {A = ℕ} 512 0) ≡ 512 = length-replicate {A = ℕ} 512 0 in
     let same : length (take m (replicate {A = ℕ} 512 0)) ≡ length (take m buffer) = length-take-le m (replicate 512 0) (omega (arith, w .within)) ∙ sym long in
     record {
       populated = p;
       few = omega (arith, w .within);
-      each = λ i. subst (λ (l : List ℕ). getD l i 0 ≤ 50000) (sym (w .are ids)) (aggregates-most catalogue table year (studentsIn n ids counts results) i);
+      each = λ i. subst (λ (l : List ℕ). getD l i 0 ≤ 50000) (sym (w .are ids .aggregates-are)) (aggregates-most catalogue table year (studentsIn n ids counts results) i);
       even = record { ranks = same; percentiles = same; bands = same };
     }

@@ -6,7 +6,6 @@ use mathlib.Core.List.{List, [], _∷_, _++_, append-assoc}
 use lib.ListN.{length, getD, length-append}
 use lib.Seq.{getD-append-seam}
 use Rattle.paper.specs.Rulings.{Outcome, accepted, refused, numberOf, placeOf}
-use Rattle.paper.proofs.Listing.{at-list}
 use Rattle.bestset.specs.Counting.{student}
 use Rattle.bestset.specs.Promise.{Values, ruling, Owed}
 use Rattle.bestset.proofs.Meeting.{computed-owed}

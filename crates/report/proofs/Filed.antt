@@ -9,14 +9,13 @@ use Rattle.paper.specs.Refusals.{fault}
 use Rattle.paper.specs.declared.refusal.Refusal.{Refusal}
 use Rattle.subjects.specs.Catalogue.{subjects}
 use Rattle.subjects.specs.Scores.{rowBytes}
-use Rattle.curve.specs.Population.{Y}
 use Rattle.listing.specs.Lines.{fileLine}
 use Rattle.cohort.specs.Held.{Student, Held, counted, idsOf, countsOf, resultsOf}
 use Rattle.cohort.specs.Meaning.{Each, FewResults, Sound}
 use Rattle.cohort.specs.Reading.{reading}
 use Rattle.cohort.specs.Promise.{Values, said, Buffers, buffers, begun, written, valuesOf, Owed, Promise}
 use Rattle.cohort.specs.declared.Answer.{Answer}
-use Rattle.cohort.specs.declared.Answer.the-variants.{Accepted, Refused}
+use Rattle.cohort.specs.declared.Answer.the-variants.{Refused}
 use Rattle.cohort.proofs.Holding.{sound}
 use Rattle.cohort.proofs.Laws.{take-begun, begun-all, length-begun}
 use Rattle.cohort.proofs.Pupils.{length-ids, length-counts}
@@ -98,8 +97,8 @@ module _ (file : List ℕ) (old new : Buffers) (v : Values) (b : Lent old) (w : 
   catalogue-is : take (5 * v .subjects) (new .catalogue) ≡ so .catalogue
   catalogue-is = ap (λ (b : Buffers). take (5 * v .subjects) (b .catalogue)) (w .left) ∙ take-begun (so .catalogue) (old .catalogue) (5 * v .subjects) (omega (arith, number, good .whole))
 
-  table-is : take (200 * v .subjects) (new .table) ≡ so .table
-  table-is = ap (λ (b : Buffers). take (200 * v .subjects) (b .table)) (w .left) ∙ take-begun (so .table) (old .table) (200 * v .subjects) (omega (arith, number, good .table))
+  table-is : take (rowBytes * v .subjects) (new .table) ≡ so .table
+  table-is = ap (λ (b : Buffers). take (rowBytes * v .subjects) (b .table)) (w .left) ∙ take-begun (so .table) (old .table) (rowBytes * v .subjects) (omega (arith, number, good .table))
 
   figures-is : new .figures ≡ so .figures
   figures-is = ap (λ (b : Buffers). b .figures) (w .left) ∙ begun-all (so .figures) (old .figures) (omega (arith, b .figures, good .ten))
@@ -142,7 +141,7 @@ module _ (file : List ℕ) (old new : Buffers) (v : Values) (b : Lent old) (w : 
   populated = subst (λ (f : List ℕ). Populated f (v .population)) (sym figures-is) (record { kept = good .population; people = ap (λ (v : Values). v .population) (w .values) })
 
   -- what is listed of the buffers is the file's text
-  pub accepted-text : (let out = outcome (take (5 * v .subjects) (new .catalogue)) (take (200 * v .subjects) (new .table)) (v .year) in
+  pub accepted-text : (let out = outcome (take (5 * v .subjects) (new .catalogue)) (take (rowBytes * v .subjects) (new .table)) (v .year) in
       let ss = studentsIn (v .students) (new .ids) (new .counts) (new .results) in
       listed out (new .figures) ss (aggregatesOf out ss)) ≡ textOf file
   unfolding textOf

@@ -1,9 +1,9 @@
 -- The cohort's line and the students' lines are the listing.
-use Prim.Native.Nat.{ℕ, zero, suc, _+_, _*_, _≤_}
+use Prim.Native.Nat.{ℕ, zero, suc, _*_, _≤_}
 use native.Mathlib.Omega.{arith}
 use mathlib.Core.Path.{_≡_, refl, sym, ap, subst, _∙_}
-use mathlib.Core.List.{List, [], _∷_, _++_}
-use lib.ListN.{length, getD, take, drop}
+use mathlib.Core.List.{List}
+use lib.ListN.{length, getD, drop}
 use Rattle.paper.specs.Rulings.{Outcome}
 use Rattle.paper.proofs.Listing.{count-within}
 use Rattle.bestset.specs.Promise.{Values}
@@ -15,7 +15,7 @@ use Rattle.listing.specs.Lines.{cohortLine, shown, Shows}
 use Rattle.listing.specs.declared.writing.Line.{Line}
 use Rattle.cohort.specs.Held.{Student}
 use Rattle.report.specs.Report.{Columns, participation, columnsOf, linesOf, listed}
-use Rattle.report.specs.Inner.{studentsIn, Even, columns, Put}
+use Rattle.report.specs.Inner.{studentsIn, Even, Put}
 use Rattle.report.proofs.Puts.{put-more}
 
 -- as many students as there are

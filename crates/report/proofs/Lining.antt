@@ -1,70 +1,117 @@
 -- What a student adds to the lines.
-use Prim.Native.Nat.{ℕ, suc, _+_, _-_, _*_, _≤_, _<_}
+use Prim.Native.Nat.{ℕ, _+_, _-_, _*_, _≤_, _<_}
 use native.Mathlib.Omega.{arith}
-use mathlib.Core.Path.{_≡_, refl, sym, ap, subst, _∙_}
+use mathlib.Core.Path.{_≡_, refl, sym, ap, _∙_}
 use mathlib.Core.List.{List, [], _∷_, _++_, append-assoc, append-nil}
-use lib.ListN.{length, getD}
+use lib.ListN.{length, getD, drop, length-drop}
+use lib.Seq.{drop-drop}
 use Rattle.paper.specs.Rulings.{Outcome, accepted, refused}
 use Rattle.bestset.specs.Promise.{Values}
 use Rattle.cohort.specs.Held.{Student}
-use Rattle.report.specs.Report.{outcome, withAggregate, aggregatesOf, Columns, lineOf, afterOne, linesOf}
-use Rattle.report.specs.Inner.{studentsIn, Within}
-use Rattle.report.proofs.Standing.{from, studentAt, next, none}
-use Rattle.report.proofs.Collecting.{Told, told-is, rest}
+use Rattle.report.specs.Report.{outcome, withAggregate, aggregatesOf, Columns, eligibleLine, lineOf, afterOne, linesOf}
+use Rattle.report.specs.Inner.{studentsIn, outcomeAt, markOf, marksOf, Eligible, Within}
+use Rattle.report.proofs.Standing.{from, at, next, none}
+use Rattle.report.proofs.Collecting.{told-is, rest, aggregates-made, marks-made, after-mark, mark-most}
 
 -- of n students in buffers i are listed, j of them eligible
-module _ (catalogue table : List ℕ) (year n : ℕ) (ids counts results : List ℕ) (c : Columns) where
+module _ (catalogue table : List ℕ) (year n : ℕ) (ids counts results marks : List ℕ) (c : Columns) where
+  abbrev out : Student → Outcome Values
+  out = outcome catalogue table year
+
   abbrev those : ℕ → ℕ → List Student
   those i place = from n ids counts results i place
 
-  -- all lines are those so far and those of the rest; all eligible are those so far and those of the rest
+  -- all lines are those so far and those of the rest; all eligible are those so far and those of the rest; the marks of the rest
   pub record Far (i place j : ℕ) (sofar : List ℕ) : Type 0 where
-    pub lines : linesOf (outcome catalogue table year) c 0 (studentsIn n ids counts results) ≡ sofar ++ linesOf (outcome catalogue table year) c j (those i place)
-    pub eligible : j + length (aggregatesOf (outcome catalogue table year) (those i place)) ≡ length (c .aggregates)
+    pub lines : linesOf out c 0 (studentsIn n ids counts results) ≡ sofar ++ linesOf out c j (those i place)
+    pub eligible : j + length (aggregatesOf out (those i place)) ≡ length (c .aggregates)
+    pub marked : drop i marks ≡ marksOf out (those i place)
 
-  pub far-none : c .aggregates ≡ aggregatesOf (outcome catalogue table year) (studentsIn n ids counts results) → Far 0 0 0 []
+  pub far-none : Eligible out (studentsIn n ids counts results) (c .aggregates) marks → Far 0 0 0 []
   far-none e =
       let z : n ≡ n - 0 = omega arith in
       let w = ap (λ (k : ℕ). studentsIn k ids counts results) z in
-      let a : length (c .aggregates) ≡ length (aggregatesOf (outcome catalogue table year) (those 0 0)) = ap length (e ∙ ap (aggregatesOf (outcome catalogue table year)) w) in
-      record { lines = ap (linesOf (outcome catalogue table year) c 0) w; eligible = omega arith }
+      let a : length (c .aggregates) ≡ length (aggregatesOf out (those 0 0)) = ap length (e .aggregates-are ∙ ap (aggregatesOf out) w) in
+      record { lines = ap (linesOf out c 0) w; eligible = omega arith; marked = e .marks-are ∙ ap (marksOf out) w }
 
-  pub far-all : (i place j : ℕ) (sofar : List ℕ) → n ≤ i → Far i place j sofar → linesOf (outcome catalogue table year) c 0 (studentsIn n ids counts results) ≡ sofar
+-- what follows of those listed so far
+module _ {catalogue table : List ℕ} {year n : ℕ} {ids counts results marks : List ℕ} {c : Columns} {i place j : ℕ} {sofar : List ℕ}
+    (f : Far catalogue table year n ids counts results marks c i place j sofar) where
+  abbrev outcomes : Student → Outcome Values
+  outcomes = outcome catalogue table year
+
+  abbrev lines-by : ℕ → List Student → List ℕ
+  lines-by = linesOf outcomes c
+
+  pub far-all : n ≤ i → lines-by 0 (studentsIn n ids counts results) ≡ sofar
   unfolding linesOf
-  far-all i place j sofar h f =
-      f .lines ∙ ap (λ (l : List Student). sofar ++ linesOf (outcome catalogue table year) c j l) (none n ids counts results i place h) ∙ append-nil sofar
+  far-all h = f .lines ∙ ap (λ (l : List Student). sofar ++ lines-by j l) (none n ids counts results i place h) ∙ append-nil sofar
 
-  pub far-within : (i place j : ℕ) (sofar : List ℕ) (o : Outcome Values) → i < n → Told catalogue table year n counts results i place o → Far i place j sofar → Within j o (length (c .aggregates))
-  far-within i place j sofar o l e f = go o (ap length (rest catalogue table year n counts results ids i place o l e))
+  -- the next student, and those after it
+  abbrev one : Outcome Values
+  one = outcomeAt catalogue table year results place (getD counts i 0)
+
+  abbrev others : List Student
+  others = from n ids counts results (i + 1) (place + 6 * getD counts i 0)
+
+  abbrev aggregates : List ℕ
+  aggregates = aggregatesOf outcomes others
+
+  marks-next : i < n → drop i marks ≡ markOf one ∷ marksOf outcomes others
+  marks-next l = f .marked ∙ rest catalogue table year n counts results (marks-made outcomes) ids i place one l refl
+
+  pub far-mark : i < n → getD marks i 0 ≡ markOf one
+  far-mark l = sym (at i marks) ∙ ap (λ (t : List ℕ). getD t 0 0) (marks-next l)
+
+  pub far-most : i < n → getD marks i 0 ≤ 1
+  far-most l = omega (arith, far-mark l, mark-most one)
+
+  pub far-inside : i < n → i < length marks
+  far-inside l = omega (arith, sym (length-drop i marks) ∙ ap length (marks-next l))
+
+  eligible-next : i < n → j + length (withAggregate one aggregates) ≡ length (c .aggregates)
+  eligible-next l =
+      ap (λ (t : List ℕ). j + length t) (sym (rest catalogue table year n counts results (aggregates-made outcomes) ids i place one l refl)) ∙ f .eligible
+
+  pub far-within : i < n → Within j one (length (c .aggregates))
+  far-within l = go one (eligible-next l)
     where
-      go : (o : Outcome Values) → length (aggregatesOf (outcome catalogue table year) (those i place)) ≡ length (withAggregate o (aggregatesOf (outcome catalogue table year) (those (i + 1) (place + 6 * getD counts i 0))))
-          → Within j o (length (c .aggregates))
+      go : (o : Outcome Values) → j + length (withAggregate o aggregates) ≡ length (c .aggregates) → Within j o (length (c .aggregates))
       go (refused f) w = tt
-      go (accepted v) w = omega (arith, f .eligible)
+      go (accepted v) w = omega (arith, w)
 
-  pub far-more : (i place j : ℕ) (sofar : List ℕ) (o : Outcome Values) (line : List ℕ) (k : ℕ) → i < n → Told catalogue table year n counts results i place o
-      → line ≡ lineOf c j (getD ids i 0) o → k ≡ afterOne j o → Far i place j sofar → Far (i + 1) (place + 6 * getD counts i 0) k (sofar ++ line)
+  pub far-more : (line : List ℕ) → i < n → line ≡ lineOf c j (getD ids i 0) one
+      → Far catalogue table year n ids counts results marks c (i + 1) (place + 6 * getD counts i 0) (j + getD marks i 0) (sofar ++ line)
   unfolding linesOf
-  far-more i place j sofar o line k l e x y f =
+  far-more line l x =
       record {
         lines =
             f .lines
-            ∙ ap (λ (t : List ℕ). sofar ++ t) (step ∙ ap (λ (o : Outcome Values). after o) (told-is catalogue table year n counts results ids i place o e)
-            ∙ sym (ap (λ (t : List ℕ). t ++ linesOf (outcome catalogue table year) c k others) x ∙ ap (λ (k : ℕ). lineOf c j (getD ids i 0) o ++ linesOf (outcome catalogue table year) c k others) y))
-            ∙ sym (append-assoc sofar line (linesOf (outcome catalogue table year) c k others));
-        eligible = ap (λ (k : ℕ). k + length (aggregatesOf (outcome catalogue table year) others)) y ∙ go o (ap length (rest catalogue table year n counts results ids i place o l e));
+            ∙ ap (λ (t : List ℕ). sofar ++ t) (ap (lines-by j) (next n ids counts results i place l) ∙ ap after (told-is catalogue table year n counts results ids i place one refl)
+            ∙ sym (ap (λ (t : List ℕ). t ++ lines-by k others) x ∙ ap (λ (k : ℕ). lineOf c j (getD ids i 0) one ++ lines-by k others) u))
+            ∙ sym (append-assoc sofar line (lines-by k others));
+        eligible = ap (λ (k : ℕ). k + length aggregates) u ∙ go one (eligible-next l);
+        marked = sym (drop-drop 1 i marks) ∙ ap (drop 1) (marks-next l);
       }
     where
-      others : List Student
-      others = those (i + 1) (place + 6 * getD counts i 0)
+      k : ℕ
+      k = j + getD marks i 0
+
+      u : k ≡ afterOne j one
+      u = ap (λ (m : ℕ). j + m) (far-mark l) ∙ after-mark j one
 
       after : Outcome Values → List ℕ
-      after o = lineOf c j (getD ids i 0) o ++ linesOf (outcome catalogue table year) c (afterOne j o) others
+      after o = lineOf c j (getD ids i 0) o ++ lines-by (afterOne j o) others
 
-      step : linesOf (outcome catalogue table year) c j (those i place) ≡ after (outcome catalogue table year (studentAt ids counts results i place))
-      step = ap (linesOf (outcome catalogue table year) c j) (next n ids counts results i place l)
+      go : (o : Outcome Values) → j + length (withAggregate o aggregates) ≡ length (c .aggregates) → afterOne j o + length aggregates ≡ length (c .aggregates)
+      go (refused g) w = omega (arith, w)
+      go (accepted v) w = omega (arith, w)
 
-      go : (o : Outcome Values) → length (aggregatesOf (outcome catalogue table year) (those i place)) ≡ length (withAggregate o (aggregatesOf (outcome catalogue table year) others))
-          → afterOne j o + length (aggregatesOf (outcome catalogue table year) others) ≡ length (c .aggregates)
-      go (refused g) w = omega (arith, f .eligible)
-      go (accepted v) w = omega (arith, f .eligible)
+-- a mark of 1 is that of an eligible student
+pub marked-within : (j : ℕ) (o : Outcome Values) (n : ℕ) → markOf o ≡ 1 → Within j o n → j < n
+marked-within j (accepted v) n e h = h
+marked-within j (refused f) n e h = absurd (omega (arith, e))
+
+pub marked-line : (c : Columns) (j id : ℕ) (o : Outcome Values) → markOf o ≡ 1 → eligibleLine c j id ≡ lineOf c j id o
+marked-line c j id (accepted v) e = refl
+marked-line c j id (refused f) e = absurd (omega (arith, e))

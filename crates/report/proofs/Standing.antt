@@ -1,12 +1,11 @@
 -- The students that stand in buffers.
-use Prim.Native.Nat.{ℕ, zero, suc, _+_, _-_, _*_, _/_, _≤_, _<_}
+use Prim.Native.Nat.{ℕ, suc, _+_, _-_, _*_, _≤_, _<_}
 use native.Mathlib.Omega.{arith}
-use mathlib.Core.Path.{_≡_, refl, sym, ap, subst, _∙_}
+use mathlib.Core.Path.{_≡_, refl, ap, _∙_}
 use mathlib.Core.List.{List, [], _∷_, _++_, append-assoc}
 use lib.ListN.{length, getD, take, drop}
 use lib.Seq.{getD-drop, drop-drop, take-at, drop-at}
 use Rattle.cohort.specs.Held.{Student, counted, idsOf, countsOf, resultsOf}
-use Rattle.cohort.specs.Promise.{begun}
 use Rattle.cohort.specs.Meaning.{Each, FewResults}
 use Rattle.report.specs.Inner.{studentsIn}
 
@@ -17,6 +16,9 @@ from n ids counts results i place = studentsIn (n - i) (drop i ids) (drop i coun
 abbrev pub studentAt : List ℕ → List ℕ → List ℕ → ℕ → ℕ → Student
 studentAt ids counts results i place = record { id = getD ids i 0; results = take (6 * getD counts i 0) (drop place results) }
 
+pub at : (i : ℕ) (xs : List ℕ) → getD (drop i xs) 0 0 ≡ getD xs i 0
+at i xs = let z : i + 0 ≡ i = omega arith in getD-drop i xs 0 0 ∙ ap (λ (k : ℕ). getD xs k 0) z
+
 -- the next, and then those after it
 pub next : (n : ℕ) (ids counts results : List ℕ) (i place : ℕ) → i < n
     → from n ids counts results i place ≡ studentAt ids counts results i place ∷ from n ids counts results (i + 1) (place + 6 * getD counts i 0)
@@ -25,13 +27,10 @@ next n ids counts results i place l =
     let e : n - i ≡ suc (n - (i + 1)) = omega arith in
     ap (λ (k : ℕ). studentsIn k (drop i ids) (drop i counts) (drop place results)) e ∙ step
   where
-    at : (xs : List ℕ) → getD (drop i xs) 0 0 ≡ getD xs i 0
-    at xs = let z : i + 0 ≡ i = omega arith in getD-drop i xs 0 0 ∙ ap (λ (k : ℕ). getD xs k 0) z
-
     step : studentsIn (suc (n - (i + 1))) (drop i ids) (drop i counts) (drop place results)
         ≡ studentAt ids counts results i place ∷ from n ids counts results (i + 1) (place + 6 * getD counts i 0)
     step =
-        rw (at ids, at counts, drop-drop 1 i ids, drop-drop 1 i counts, drop-drop (6 * getD counts i 0) place results) refl
+        rw (at i ids, at i counts, drop-drop 1 i ids, drop-drop 1 i counts, drop-drop (6 * getD counts i 0) place results) refl
 
 pub none : (n : ℕ) (ids counts results : List ℕ) (i place : ℕ) → n ≤ i → from n ids counts results i place ≡ []
 unfolding studentsIn

@@ -1,10 +1,12 @@
 -- What the functions below the entry promise each other.
 use Prim.Native.Nat.{ℕ, zero, suc, _+_, _*_, _≤_, _<_}
 use mathlib.Core.Path.{_≡_}
-use mathlib.Core.List.{List, [], _∷_}
+use mathlib.Core.List.{List, [], _∷_, map}
 use lib.ListN.{length, getD, take, drop, set}
 use Rattle.paper.specs.Rulings.{Outcome, accepted, refused}
 use Rattle.bestset.specs.Promise.{Values}
+use Rattle.bestset.specs.Counting.{student}
+use Rattle.bestset.specs.Computed.{computed}
 use Rattle.curve.specs.Population.{Y}
 use Rattle.curve.specs.Promise.{values, populationRuling}
 use Rattle.cohort.specs.Held.{Student}
@@ -18,6 +20,24 @@ studentsIn (suc n) ids counts results =
     record { id = getD ids 0 0; results = take (6 * getD counts 0 0) results }
     ∷ studentsIn n (drop 1 ids) (drop 1 counts) (drop (6 * getD counts 0 0) results)
 
+-- the outcome of the student whose results, so many, stand from a place on
+abbrev pub outcomeAt : List ℕ → List ℕ → ℕ → List ℕ → ℕ → ℕ → Outcome Values
+outcomeAt catalogue table year results place count = computed (student catalogue (take (6 * count) (drop place results)) year) table
+
+-- a student's mark: 1 where eligible, else 0
+abbrev pub markOf : Outcome Values → ℕ
+markOf (accepted v) = 1
+markOf (refused f) = 0
+
+-- the marks of the students, in file order
+abbrev pub marksOf : (Student → Outcome Values) → List Student → List ℕ
+marksOf outcomes students = map (λ (s : Student). markOf (outcomes s)) students
+
+-- who is eligible, and the aggregates of the eligible
+pub record Eligible (outcomes : Student → Outcome Values) (students : List Student) (aggregates marks : List ℕ) : Type 0 where
+  pub aggregates-are : aggregates ≡ aggregatesOf outcomes students
+  pub marks-are : marks ≡ marksOf outcomes students
+
 -- at most 512 students, of at most 16 results
 pub record Few (n : ℕ) (counts results : List ℕ) : Type 0 where
   pub students : n ≤ 512
@@ -30,11 +50,12 @@ abbrev pub kept : Outcome Values → List ℕ → ℕ → List ℕ
 kept (accepted v) buffer j = set buffer j (v .aggregate)
 kept (refused f) buffer j = buffer
 
--- the first m numbers of a buffer of 512 are the aggregates of the eligible among n students
-pub record Collected (outcomes : Student → Outcome Values) (n : ℕ) (counts results buffer : List ℕ) (m : ℕ) : Type 0 where
+-- the first m numbers of a buffer of 512 are the aggregates of the eligible among n students, and the first n of another are their marks
+pub record Collected (outcomes : Student → Outcome Values) (n : ℕ) (counts results buffer marks : List ℕ) (m : ℕ) : Type 0 where
   pub long : length buffer ≡ 512
+  pub marks-long : length marks ≡ 512
   pub within : m ≤ n
-  pub are : (ids : List ℕ) → take m buffer ≡ aggregatesOf outcomes (studentsIn n ids counts results)
+  pub are : (ids : List ℕ) → Eligible outcomes (studentsIn n ids counts results) (take m buffer) (take n marks)
 
 -- each column is as long as the aggregates
 pub record Even (c : Columns) : Type 0 where

@@ -2,11 +2,11 @@
 ghost use mathlib.Core.Path.{_≡_};
 ghost use Prim.Native.Nat.{_≤_};
 ghost use lib.ListN.{length};
-ghost use Rattle.cohort.specs.Held.{Held};
 ghost use Rattle.report.specs.Report.{outcome, aggregatesOf, listed, textOf};
-ghost use Rattle.report.specs.Inner.{studentsIn, Few, Populated, Placeable, columns, Put};
+ghost use Rattle.report.specs.Inner.{studentsIn, Eligible, Few, Populated, Placeable, columns, Put};
 ghost use Rattle.report.specs.Promise.{Promise};
 use paper::refusal::Refusal;
+use subjects::scores::ROW_BYTES;
 
 mod lines;
 mod placing;
@@ -33,6 +33,7 @@ fn list_placed(
     ids: &[u32],
     counts: &[u8],
     results: &[u8],
+    marks: &[u8],
     aggregates: &[u32],
     ranks: &mut [u32],
     percentiles: &mut [u32],
@@ -40,7 +41,7 @@ fn list_placed(
     text: &mut [u8],
 ) -> usize
     requires { ⌜ Few students (now counts) (now results) × (students ≤ length (now ids)) × Placeable (now figures) population (columns (now aggregates) (now ranks) (now percentiles) (now bands))
-        × (now aggregates ≡ aggregatesOf (outcome (now catalogue) (now table) year) (studentsIn students (now ids) (now counts) (now results)))
+        × Eligible (outcome (now catalogue) (now table) year) (studentsIn students (now ids) (now counts) (now results)) (now aggregates) (now marks)
         × (length (now text) ≡ 65536) ⌝ }
     ensures { λ r. ⌜ Put (now (text .entry)) (now (text .exit)) 0 r
         (listed (outcome (now (catalogue .entry)) (now (table .entry)) year) (now (figures .entry))
@@ -57,6 +58,7 @@ fn list_placed(
         ids,
         counts,
         results,
+        marks,
         aggregates,
         ranks,
         percentiles,
@@ -86,6 +88,7 @@ fn list_cohort(
         (aggregatesOf (outcome (now (catalogue .entry)) (now (table .entry)) year) (studentsIn students (now (ids .entry)) (now (counts .entry)) (now (results .entry))))) ⌝ }
 {
     let mut aggregates = [0u32; 512];
+    let mut marks = [0u8; 512];
     let n = students::collect(
         catalogue,
         table,
@@ -94,6 +97,7 @@ fn list_cohort(
         counts,
         results,
         &mut aggregates,
+        &mut marks,
     );
     let mut ranks = [0u32; 512];
     let mut percentiles = [0u32; 512];
@@ -108,6 +112,7 @@ fn list_cohort(
         ids,
         counts,
         results,
+        &marks[..students],
         &aggregates[..n],
         &mut ranks[..n],
         &mut percentiles[..n],
@@ -147,7 +152,7 @@ fn list_file(file: &[u8], text: &mut [u8]) -> usize
             rate: _,
         } => {
             let c = 5 * subjects;
-            let t = 200 * subjects;
+            let t = ROW_BYTES * subjects;
             list_cohort(
                 &catalogue[..c],
                 &table[..t],

@@ -1,12 +1,10 @@
-// Each student's best set, and the aggregates of the eligible.
+// Each student's best set, who is eligible, and the aggregates of the eligible.
 ghost use mathlib.Core.Path.{_≡_};
 ghost use Prim.Native.Nat.{_+_, _*_, _≤_, _<_};
-ghost use lib.ListN.{length, take, drop};
-ghost use Rattle.bestset.specs.Counting.{student};
+ghost use lib.ListN.{length};
 ghost use Rattle.bestset.specs.Promise.{said};
-ghost use Rattle.bestset.specs.Computed.{computed};
-ghost use Rattle.report.specs.Report.{outcome, afterOne};
-ghost use Rattle.report.specs.Inner.{Few, kept, Collected};
+ghost use Rattle.report.specs.Report.{outcome};
+ghost use Rattle.report.specs.Inner.{outcomeAt, markOf, Few, kept, Collected};
 use bestset::Answer;
 
 // The best set of the student whose results stand from a place on.
@@ -19,7 +17,7 @@ pub(crate) fn best_at(
     count: usize,
 ) -> Answer
     requires { ⌜ place + 6 * count ≤ length (now results) ⌝ }
-    ensures { λ r. ⌜ said r ≡ computed (student (now (catalogue .entry)) (take (6 * count) (drop place (now (results .entry)))) year) (now (table .entry)) ⌝ }
+    ensures { λ r. ⌜ said r ≡ outcomeAt (now (catalogue .entry)) (now (table .entry)) year (now (results .entry)) place count ⌝ }
 {
     let end = place + 6 * count;
     bestset::best_set(catalogue, table, &results[place..end], year)
@@ -35,21 +33,20 @@ fn keep(answer: Answer, j: usize, aggregates: &mut [u32])
     }
 }
 
-// How many are eligible with one student more.
-pub(crate) fn after(answer: Answer, j: usize) -> usize
-    requires { ⌜ j < 512 ⌝ }
-    ensures { λ r. ⌜ r ≡ afterOne j (said answer) ⌝ }
+// 1 for an eligible student, 0 for a refused one.
+fn mark_of(answer: Answer) -> u8
+    ensures { λ r. ⌜ r ≡ markOf (said answer) ⌝ }
 {
     match answer {
         Answer::Accepted {
             aggregate: _,
             set: _,
-        } => j + 1,
-        Answer::Refused(_) => j,
+        } => 1,
+        Answer::Refused(_) => 0,
     }
 }
 
-// Collects the aggregates of the eligible in file order, and counts them.
+// Marks each student, collects the aggregates of the eligible in file order, and counts them.
 pub(crate) fn collect(
     catalogue: &[u8],
     table: &[u8],
@@ -58,9 +55,10 @@ pub(crate) fn collect(
     counts: &[u8],
     results: &[u8],
     aggregates: &mut [u32],
+    marks: &mut [u8],
 ) -> usize
-    requires { ⌜ Few students (now counts) (now results) × (length (now aggregates) ≡ 512) ⌝ }
-    ensures { λ r. ⌜ Collected (outcome (now (catalogue .entry)) (now (table .entry)) year) students (now (counts .entry)) (now (results .entry)) (now (aggregates .exit)) r ⌝ }
+    requires { ⌜ Few students (now counts) (now results) × (length (now aggregates) ≡ 512) × (length (now marks) ≡ 512) ⌝ }
+    ensures { λ r. ⌜ Collected (outcome (now (catalogue .entry)) (now (table .entry)) year) students (now (counts .entry)) (now (results .entry)) (now (aggregates .exit)) (now (marks .exit)) r ⌝ }
 {
     let mut i = 0;
     let mut place = 0;
@@ -69,7 +67,9 @@ pub(crate) fn collect(
         let count = counts[i] as usize;
         let answer = best_at(catalogue, table, year, results, place, count);
         keep(answer, eligible, aggregates);
-        eligible = after(answer, eligible);
+        let mark = mark_of(answer);
+        marks[i] = mark;
+        eligible += mark as usize;
         place += 6 * count;
         i += 1;
     }

@@ -27,6 +27,7 @@ use Rattle.curve.specs.Population.{S, E}
 use Rattle.curve.specs.Curve.{lower, upper, entry, tableOf}
 use Rattle.curve.specs.Promise.{Values, said as saidCurve, populationRuling, ruling as curveRuling, Owed, Promise}
 use Rattle.curve.specs.declared.Answer.{Answer as CurveAnswer}
+use Rattle.curve.proofs.Promised.{table-ruled}
 use Rattle.bands.specs.declared.Answer.{Answer as BandsAnswer}
 use Rattle.bands.specs.Placing.{places, remainder}
 use Rattle.bands.specs.Search.{bandUpTo, bandsOf}
@@ -45,10 +46,6 @@ Computes (figures q give o) = populationRuling q ≡ o
 Computes (rate r band k has v) = (populationRuling (atRate r) ≡ counted 10000 r) × (getD (tableOf r) k 0 ≡ v)
 Computes (aggregates xs by table of Y get atars leaving n) =
     (length table ≡ 2000) × Kept (bandRules 512 true xs table Y) × (remainder xs table Y ≡ n) × (map atarOf (bandsOf xs table Y) ≡ atars)
-
--- a lent table of 2000 entries leaves the figures to rule
-table-ruled : (q lent : List ℕ) → length lent ≡ 2000 → curveRuling q lent ≡ populationRuling q
-table-ruled q lent l = simp (eq-eqb _ _ l)
 
 -- the answer is what is ruled
 owed-said : (before : List ℕ) (r : CurveAnswer) (after : List ℕ) (o : Outcome Values) → Owed before r after o → saidCurve r ≡ o

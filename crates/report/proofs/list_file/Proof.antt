@@ -2,12 +2,10 @@ use Rattle.report.proofs.Puts.{shows-own}
 use Rattle.report.proofs.Filed.{refused-text, Taken, Lent, zeros, zeros-lent, taken, few-subjects, lent, few, enough, populated, accepted-text}
 use Rattle.report.specs.Inner.{Put}
 use Rattle.cohort.specs.Promise.{Values, said, Buffers, buffers}
-use Rattle.listing.specs.Lines.{shown}
+use Rattle.subjects.specs.Scores.{rowBytes}
 use lib.Seq.{length-take-le}
-use lib.ListN.{length, take, replicate}
-use mathlib.Core.List.{List}
-use mathlib.Core.Path.{_≡_, sym, ap, subst, _∙_}
-use Prim.Native.Nat.{ℕ, _*_, _≤_}
+use mathlib.Core.Path.{sym, ap, subst, _∙_}
+use Prim.Native.Nat.{_*_, _≤_}
 use native.Mathlib.Omega.{arith}
 use borrow.Author.Needs.{needs}
 use Rattle.report.proofs.list_file.Statement.{statement}
@@ -67,7 +65,7 @@ array-share-prefix-table : tie.Need-array-share-prefix-table
 array-share-prefix-table c = omega (arith, subjects-few (c .before), long (c .before) .table)
 
 slice-aggregate-list-cohort-2 : tie.Need-slice-aggregate-list-cohort-2
-slice-aggregate-list-cohort-2 c = sym (length-take-le (200 * values (c .before .before) .subjects) (left (c .before .before) .table) (omega (arith, subjects-few (c .before .before), long (c .before .before) .table)))
+slice-aggregate-list-cohort-2 c = sym (length-take-le (rowBytes * values (c .before .before) .subjects) (left (c .before .before) .table) (omega (arith, subjects-few (c .before .before), long (c .before .before) .table)))
 
 cast-list-cohort : tie.Need-cast-list-cohort
 cast-list-cohort c = search needs

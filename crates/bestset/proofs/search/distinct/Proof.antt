@@ -1,22 +1,23 @@
-use Prim.Native.Nat.{ℕ, _≤_, _<_, _-_}
-use native.Mathlib.Decide.{ℕ-discrete}
-use native.Mathlib.Omega.{arith}
-use mathlib.Core.Path.{_≡_}
-use mathlib.Core.Logic.{⊎-elim}
-use borrow.Author.Count.{below-more}
-use borrow.Author.Needs.{needs}
-use Rattle.bestset.specs.Sets.{In}
-use Rattle.bestset.specs.Reading.{identity}
+use Rattle.bestset.proofs.Digits.{test-in, test-not}
 use Rattle.bestset.specs.Masked.{Repeated}
-use Rattle.bestset.proofs.Digits.{in-lt, test-in, test-not}
+use Rattle.bestset.specs.Trying.{valueAt}
+use Rattle.bestset.specs.Sets.{In}
+use borrow.Author.Count.{below-more}
+use mathlib.Core.Logic.{⊎-elim}
+use mathlib.Core.Path.{_≡_}
+use native.Mathlib.Omega.{arith}
+use native.Mathlib.Decide.{ℕ-discrete}
+use Prim.Native.Nat.{ℕ, _<_, _-_}
+use borrow.Author.Needs.{needs}
 use Rattle.bestset.proofs.search.distinct.Statement.{statement}
 use Rattle.bestset.proofs.search.distinct.Tie as tie
+use Rattle.bestset.proofs.search.repeats_later.Reads as repeats-later-reads
 
 abbrev Inv-loop : tie.InvT-loop
-Inv-loop catalogue results set i₀ i = (i ≤ 16) × ((a : ℕ) → a < i → In a set → Repeated (identity catalogue results) set a → ⊥)
+Inv-loop identities held set i₀ i = (a : ℕ) → a < i → In a set → Repeated (valueAt identities) set a → ⊥
 
 abbrev μ-loop : tie.MeasureT-loop
-μ-loop catalogue results set i₀ i = 16 - i
+μ-loop identities held set i₀ i = held - i
 
 -- a result that is not repeated shares no identity with a later member
 not-repeated : (identities : ℕ → ℕ) (set i j : ℕ) → (Repeated identities set i → ⊥) → i < j → In j set → identities i ≡ identities j → identities i ≡ 0
@@ -27,7 +28,7 @@ not-repeated identities set i j n h p e = go (ℕ-discrete (identities i) 0)
     go (no z) = absurd (n (record { some = z; other = j; later = h; member = p; same = e }))
 
 loop-holds : tie.Need-loop-holds Inv-loop μ-loop
-loop-holds c = (omega arith, λ a h. absurd (omega arith))
+loop-holds c = λ a h. absurd (omega arith)
 
 cast-if1 : tie.Need-cast-if1 Inv-loop μ-loop
 cast-if1 c = search needs
@@ -36,14 +37,13 @@ shl-if1 : tie.Need-shl-if1 Inv-loop μ-loop
 shl-if1 c = search needs
 
 repeats-later-requires : tie.Need-repeats-later-requires Inv-loop μ-loop
-repeats-later-requires c κs = search needs
+repeats-later-requires c κs = (omega (arith, c .before .before .before .pre .0), c .before .before .before .pre .0, c .before .before .before .pre .1)
 
 returns : tie.Need-returns Inv-loop μ-loop
 returns c =
-    let s = c .before .before .before .before in
-    let g = s .before .before .before .args in
-    let r : Repeated (identity (g .catalogue .now) (g .results .now)) (g .set) (s .loop .i) = rw (c .if2 .taken) at (c .before .repeats-later .ensures) in
-    λ d. r .some (d _ _ (r .later) (test-in _ _ (c .before .before .before .loop-test .taken) (c .before .before .if1 .taken)) (r .member) (r .same))
+    let few = c .before .before .before .before .before .pre .0 in
+    let r : Repeated (valueAt (c .before .before .before .before .before .args .identities .now)) (c .before .before .before .before .before .args .set) (c .before .before .before .before .loop .i) = rw (c .if2 .taken) at (c .before .repeats-later .ensures) in
+    λ d. r .some (d _ _ (r .later) (test-in (c .before .before .before .before .before .args .set) (c .before .before .before .before .loop .i) (omega arith) (c .before .before .if1 .taken)) (r .member) (r .same))
 
 add-i : tie.Need-add-i Inv-loop μ-loop
 add-i c = search needs
@@ -52,21 +52,15 @@ loop-less : tie.Need-loop-less Inv-loop μ-loop
 loop-less c = search needs
 
 loop-again : tie.Need-loop-again Inv-loop μ-loop
-loop-again c = (
-  omega arith,
-  below-more _ _ (c .before .before .loop .inv .1)
-      (⊎-elim
-      (λ w p. rw (w .2 .left) at (w .1 .ensures))
-      (λ w p. absurd (test-not _ _ (c .before .loop-test .taken) (w .left) p))
-      (c .if1 .came)),
-)
+loop-again c =
+    below-more _ _ (c .before .before .loop .inv)
+    (⊎-elim
+    (λ w p. rw (w .2 .left) at (w .1 .ensures))
+    (λ w p. absurd (test-not _ _ (omega (arith, c .before .before .before .pre .0)) (w .left) p))
+    (c .if1 .came))
 
 returns-2 : tie.Need-returns-2 Inv-loop μ-loop
-returns-2 c =
-    let s = c .before .before .before .before in
-    λ i j h p q e.
-    let l = in-lt 16 (s .args .set) i (s .fits .set .fits) p in
-    not-repeated _ (s .args .set) i j (c .before .loop .inv .1 i (omega arith) p) h q e
+returns-2 c = λ i j h p q e. not-repeated _ (c .before .before .args .set) i j (c .before .loop .inv i (omega (arith, c .before .before .pre .1 i p)) p) h q e
 
 pub distinct-spec : {M : Type 1} → statement M
 distinct-spec =

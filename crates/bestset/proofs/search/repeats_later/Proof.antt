@@ -1,27 +1,30 @@
-use Prim.Native.Nat.{ℕ, _≤_, _<_, _-_}
-use native.Mathlib.Omega.{arith}
-use mathlib.Core.Path.{_≡_, sym, _∙_}
-use mathlib.Core.Logic.{⊎-elim}
-use borrow.Author.Tests.{eqb-true, eqb-false}
-use borrow.Author.Count.{below-more}
-use borrow.Author.Needs.{needs}
+use Rattle.bestset.proofs.Digits.{test-in, test-not}
+use Rattle.bestset.specs.Trying.{valueAt}
 use Rattle.bestset.specs.Sets.{In}
-use Rattle.bestset.specs.Reading.{identity}
-use Rattle.bestset.proofs.Digits.{in-lt, test-in, test-not}
+use borrow.Author.Count.{below-more}
+use borrow.Author.Tests.{eqb-true, eqb-false}
+use mathlib.Core.Logic.{⊎-elim}
+use mathlib.Core.Path.{_≡_, sym}
+use native.Mathlib.Omega.{arith}
+use Prim.Native.Nat.{ℕ, _≤_, _<_, _-_}
+use borrow.Author.Needs.{needs}
 use Rattle.bestset.proofs.search.repeats_later.Statement.{statement}
 use Rattle.bestset.proofs.search.repeats_later.Tie as tie
 
 abbrev Inv-loop : tie.InvT-loop
-Inv-loop catalogue results set i own j₀ j = (i < j) × (j ≤ 16) × ((b : ℕ) → b < j → i < b → In b set → identity catalogue results b ≡ own → ⊥)
+Inv-loop identities held set i own j₀ j = (i < j) × (j ≤ 16) × ((b : ℕ) → b < j → i < b → In b set → valueAt identities b ≡ own → ⊥)
 
 abbrev μ-loop : tie.MeasureT-loop
-μ-loop catalogue results set i own j₀ j = 16 - j
+μ-loop identities held set i own j₀ j = held - j
 
-identity-at-requires : tie.Need-identity-at-requires Inv-loop μ-loop
-identity-at-requires c κs = search needs
+mul-own : tie.Need-mul-own Inv-loop μ-loop
+mul-own c = search needs
+
+element-copy-out-own : tie.Need-element-copy-out-own Inv-loop μ-loop
+element-copy-out-own c = search needs
 
 returns : tie.Need-returns Inv-loop μ-loop
-returns c = λ d. d .some (sym (c .before .identity-at .ensures) ∙ c .if1 .taken)
+returns c = λ d. d .some (c .if1 .taken)
 
 add-j : tie.Need-add-j Inv-loop μ-loop
 add-j c = search needs
@@ -35,19 +38,20 @@ cast-if2 c = search needs
 shl-if2 : tie.Need-shl-if2 Inv-loop μ-loop
 shl-if2 c = search needs
 
-identity-at-requires-2 : tie.Need-identity-at-requires-2 Inv-loop μ-loop
-identity-at-requires-2 c κs = search needs
+mul-if3 : tie.Need-mul-if3 Inv-loop μ-loop
+mul-if3 c = search needs
+
+element-copy-out-if3 : tie.Need-element-copy-out-if3 Inv-loop μ-loop
+element-copy-out-if3 c = search needs
 
 returns-2 : tie.Need-returns-2 Inv-loop μ-loop
 returns-2 c =
-    let l = c .before .before .before .before in
-    let own = l .before .before .identity-at .ensures in
     record {
-      some = λ e. l .before .if1 .left (own ∙ e);
-      other = l .loop .j;
-      later = l .loop .inv .0;
-      member = test-in _ _ (c .before .before .before .loop-test .taken) (c .before .before .if2 .taken);
-      same = sym own ∙ sym (eqb-true _ _ (c .if3 .taken)) ∙ c .before .identity-at2 .ensures;
+      some = c .before .before .before .before .before .if1 .left;
+      other = c .before .before .before .before .loop .j;
+      later = c .before .before .before .before .loop .inv .0;
+      member = test-in _ _ (omega (arith, c .before .before .before .before .before .before .before .pre .1)) (c .before .before .if2 .taken);
+      same = sym (eqb-true _ _ (c .if3 .taken));
     }
 
 add-j-2 : tie.Need-add-j-2 Inv-loop μ-loop
@@ -59,20 +63,19 @@ loop-less c = search needs
 loop-again : tie.Need-loop-again Inv-loop μ-loop
 loop-again c = (
   omega arith,
-  omega arith,
+  omega (arith, c .before .before .before .before .before .pre .1),
   below-more _ _ (c .before .before .loop .inv .2)
       (⊎-elim
-      (λ w k p e. eqb-false _ _ (w .2 .left) (w .1 .ensures ∙ e))
-      (λ w k p e. test-not _ _ (c .before .loop-test .taken) (w .left) p)
+      (λ w k p e. eqb-false _ _ (w .2 .left) e)
+      (λ w k p e. test-not _ _ (omega (arith, c .before .before .before .before .before .pre .1)) (w .left) p)
       (c .if2 .came)),
 )
 
 returns-3 : tie.Need-returns-3 Inv-loop μ-loop
 returns-3 c =
-    let s = c .before .before .before .before .before .before in
     λ d.
-    let l = in-lt 16 (s .args .set) (d .other) (s .fits .set .fits) (d .member) in
-    c .before .loop .inv .2 (d .other) (omega arith) (d .later) (d .member) (sym (d .same) ∙ sym (c .before .before .before .identity-at .ensures))
+    let l = c .before .before .before .before .pre .2 (d .other) (d .member) in
+    c .before .loop .inv .2 (d .other) (omega arith) (d .later) (d .member) (sym (d .same))
 
 pub repeats-later-spec : {M : Type 1} → statement M
 repeats-later-spec =
@@ -80,13 +83,15 @@ repeats-later-spec =
     (tie.spec
     Inv-loop
     μ-loop
-    identity-at-requires
+    mul-own
+    element-copy-out-own
     returns
     add-j
     loop-holds
     cast-if2
     shl-if2
-    identity-at-requires-2
+    mul-if3
+    element-copy-out-if3
     returns-2
     add-j-2
     loop-less

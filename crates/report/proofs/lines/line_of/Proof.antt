@@ -4,8 +4,7 @@ use Rattle.listing.specs.Lines.{Shows}
 use Rattle.bestset.specs.Promise.{said}
 use Rattle.bestset.specs.declared.Answer.{Answer}
 use lib.ListN.{length}
-use mathlib.Core.Path.{_≡_, sym, ap, subst}
-use native.Mathlib.Omega.{arith}
+use mathlib.Core.Path.{sym, subst}
 use borrow.Author.Needs.{needs}
 use Rattle.report.proofs.lines.line_of.Statement.{statement}
 use Rattle.report.proofs.lines.line_of.Tie as tie

@@ -2,8 +2,7 @@ use Prim.Native.Nat.{ℕ}
 use lib.ListN.{replicate, length-replicate}
 use Rattle.report.proofs.Accepting.{all-placed, remainderIn, placed-once}
 use Rattle.report.specs.Inner.{columns}
-use mathlib.Core.Path.{_≡_, sym, ap, _∙_}
-use native.Mathlib.Omega.{arith}
+use mathlib.Core.Path.{sym, ap, _∙_}
 use borrow.Author.Needs.{needs}
 use Rattle.report.proofs.placing.place.Statement.{statement}
 use Rattle.report.proofs.placing.place.Tie as tie

@@ -1,10 +1,8 @@
 use Rattle.bestset.proofs.Meeting.{said-only}
-use Rattle.bestset.specs.Computed.{computed, answer}
-use Rattle.bestset.specs.Promise.{said, Promise}
 use Rattle.bestset.specs.Counting.{student}
 use lib.ListN.{take, drop}
-use mathlib.Core.Path.{_≡_, sym, ap, _∙_}
-use Prim.Native.Nat.{ℕ, _+_, _*_, _-_}
+use mathlib.Core.Path.{_≡_}
+use Prim.Native.Nat.{_+_, _*_, _-_}
 use native.Mathlib.Omega.{arith}
 use borrow.Author.Needs.{needs}
 use Rattle.report.proofs.students.best_at.Statement.{statement}

@@ -1,8 +1,8 @@
 use Rattle.report.proofs.Puts.{pasted, put-paste, line-long, line-short}
-use lib.Seq.{paste, paste-zero, paste-suc, length-paste}
-use lib.ListN.{length, take, drop, length-set}
-use mathlib.Core.Path.{_≡_, refl, sym, ap, _∙_}
-use Prim.Native.Nat.{ℕ, suc, _+_, _-_, _≤_}
+use lib.Seq.{paste, paste-zero}
+use lib.ListN.{length, length-set}
+use mathlib.Core.Path.{_≡_, refl}
+use Prim.Native.Nat.{_-_, _≤_}
 use native.Mathlib.Omega.{arith}
 use borrow.Author.Needs.{needs}
 use Rattle.report.proofs.writing.append.Statement.{statement}

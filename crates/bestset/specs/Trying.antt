@@ -1,0 +1,59 @@
+-- How far the search has come. A set has a key: of two sets of five the one that comes first in dictionary order has the greater, and the search goes down in keys.
+use Prim.Native.Nat.{ℕ, zero, suc, _+_, _-_, _*_, _/_, _%_, _^_, _≤_, _<_}
+use mathlib.Core.Path.{_≡_}
+use mathlib.Core.Logic.{_⊎_}
+use mathlib.Core.List.{List}
+use lib.ListN.{getD}
+use Rattle.bestset.specs.Sets.{In, total}
+use Rattle.bestset.specs.Masked.{Below, Beats, Answers}
+use Rattle.bestset.specs.declared.search.Best.{Best}
+use Rattle.bestset.specs.declared.search.Best.the-variants.{Chosen}
+
+-- the value at a position; 0 past the list
+abbrev pub valueAt : List ℕ → ℕ → ℕ
+valueAt values i = getD values i 0
+
+-- a list has by position what f gives for each result held, and 0 past them
+pub record ByPosition (f : ℕ → ℕ) (held : ℕ) (values : List ℕ) : Type 0 where
+  pub each : (i : ℕ) → i < held → valueAt values i ≡ f i
+  pub rest : (i : ℕ) → held ≤ i → valueAt values i ≡ 0
+
+-- what is sought in: at most 16 results are held, the kept ones are among them, and no score is over 10000
+pub record Sought (mask : ℕ) (scores : List ℕ) (held : ℕ) : Type 0 where
+  pub few : held ≤ 16
+  pub among : Below held mask
+  pub most : (i : ℕ) → valueAt scores i ≤ 10000
+
+-- the k lowest bits of m in reverse, as a number: result 0 weighs most
+unfoldable pub key : ℕ → ℕ → ℕ
+key zero m = 0
+key (suc k) m = (m % 2) * 2 ^ k + key k (m / 2)
+
+-- where the keys end of a set with no member from `at` on and of all sets that go on from it: they are `key 16 set` or more, and below this
+unfoldable pub room : ℕ → ℕ → ℕ
+room at set = key 16 set + 2 ^ (16 - at)
+
+-- the admissible sets of key m or more
+abbrev pub From : (ℕ → Type 0) → ℕ → ℕ → Type 0
+From Adm m t = (m ≤ key 16 t) × Adm t
+
+-- the best of the admissible sets of key m or more
+abbrev pub Tried : (ℕ → Type 0) → (ℕ → ℕ) → ℕ → Best → Type 0
+Tried Adm score m b = Answers (From Adm m) score b
+
+-- a set of kept results before position `at`
+pub record Before (mask held at set : ℕ) : Type 0 where
+  pub low : at ≤ held
+  pub small : set < 2 ^ at
+  pub kept : (i : ℕ) → In i set → In i mask
+
+-- the search stands at a set: one of kept results before `at`, its sum, and the best of the sets tried, those of key m or more
+pub record Stands (Adm : ℕ → Type 0) (score : ℕ → ℕ) (mask held m : ℕ) (best : Best) (at set sum : ℕ) : Type 0 where
+  pub place : Before mask held at set
+  pub worth : sum ≡ total score set
+  pub tried : Tried Adm score m best
+
+-- the best with one set more: the set, if it is admissible and comes to more; else the best so far
+abbrev pub Bettered : (ℕ → Type 0) → Best → ℕ → ℕ → Best → Type 0
+Bettered Adm best set sum r =
+    ((r ≡ Chosen sum set) × Beats best sum × Adm set) ⊎ ((r ≡ best) × ((Beats best sum → ⊥) ⊎ (Adm set → ⊥)))
