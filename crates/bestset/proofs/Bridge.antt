@@ -19,13 +19,14 @@ use Rattle.subjects.proofs.Promised.{kept-sound}
 use Rattle.paper.proofs.Booleans.{both-true, true-both}
 use Rattle.bestset.specs.Sets.{In, has, onesFrom, positions, sumOver, countOver, total}
 use Rattle.bestset.specs.Results.{held, subjectOf, kindOf, identityOf}
-use Rattle.bestset.specs.Reading.{score, identity}
+use Rattle.bestset.specs.Reading.{score, identity, valueAt, ByPosition}
 use Rattle.bestset.specs.Counting.{Student, general, applied, ofStrand, usable, english, later, kept}
 use Rattle.bestset.specs.Admissible.{NotBoth, OneEach, Admissible}
 use Rattle.bestset.specs.Rules.{resultRules, lengthRules, repeatRule, studentRules}
 use Rattle.bestset.specs.Promise.{Values, said, WellFormed, ruling, Answered, Owed, Promise}
-use Rattle.bestset.specs.Masked.{Holds, Masked, Apart, Distinct, Allowed, Answers}
-use Rattle.bestset.specs.Trying.{valueAt, ByPosition, Sought}
+use Rattle.bestset.specs.Masked.{Apart, Distinct, Allowed, Answers}
+use Rattle.bestset.specs.Sorts.{Holds, Masked}
+use Rattle.bestset.specs.Trying.{Sought}
 use Rattle.bestset.specs.declared.Answer.{Answer}
 use Rattle.bestset.specs.declared.Answer.the-variants.{Refused}
 use Rattle.bestset.specs.declared.search.Masks.{Masks}

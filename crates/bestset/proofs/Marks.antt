@@ -10,7 +10,7 @@ use lib.Bits.{bitOr}
 use Rattle.bestset.specs.Sets.{In}
 use Rattle.bestset.specs.Counting.{Student, kept}
 use Rattle.bestset.specs.Results.{kindOf, strandOf}
-use Rattle.bestset.specs.Masked.{Holds, marked, withOne, Masked}
+use Rattle.bestset.specs.Sorts.{Holds, marked, withOne, Masked}
 use Rattle.bestset.specs.declared.search.Masks.{Masks}
 use Rattle.bestset.proofs.Digits.{in-none, in-joined, low-bit, top-bit}
 use Rattle.bestset.proofs.Steps.{next}

@@ -9,8 +9,7 @@ use lib.Seq.{getD-set-same, getD-set-other}
 use Rattle.subjects.specs.Scores.{Found, scaled, absent, over, slotOf}
 use Rattle.subjects.proofs.Slots.{found-within}
 use Rattle.bestset.specs.Results.{subjectOf, letterOf, numberOf, kindOf}
-use Rattle.bestset.specs.Reading.{scoreFound, worth, score}
-use Rattle.bestset.specs.Trying.{valueAt, ByPosition}
+use Rattle.bestset.specs.Reading.{scoreFound, worth, score, valueAt, ByPosition}
 
 worth-most : (f : Found) → ((v : ℕ) → f ≡ scaled v → v ≤ 10000) → worth f ≤ 10000
 worth-most (scaled v) within = within v refl

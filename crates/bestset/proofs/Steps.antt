@@ -13,7 +13,8 @@ use lib.Count.{ones, ones-ones, ones-cat, ones-le}
 use mathlib.Core.List.{List}
 use Rattle.bestset.specs.Sets.{bit, In, positions, total}
 use Rattle.bestset.specs.Masked.{Allowed, Beats, Answers}
-use Rattle.bestset.specs.Trying.{valueAt, Sought, key, room, From, Tried, Before, Stands, Bettered}
+use Rattle.bestset.specs.Trying.{Sought, key, room, From, Tried, Before, Stands, Bettered}
+use Rattle.bestset.specs.Reading.{valueAt}
 use Rattle.bestset.specs.declared.search.Masks.{Masks}
 use Rattle.bestset.specs.declared.search.Best.{Best}
 use Rattle.bestset.specs.declared.search.Best.the-variants.{Chosen, Nothing}

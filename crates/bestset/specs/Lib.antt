@@ -6,6 +6,7 @@ pub mod Admissible
 pub mod Rules
 pub mod Promise
 pub mod Computed
+pub mod Sorts
 pub mod Masked
 pub mod Trying
 pub mod Inner

@@ -3,20 +3,11 @@ use Prim.Native.Nat.{ℕ, zero, suc, _+_, _-_, _*_, _/_, _%_, _^_, _≤_, _<_}
 use mathlib.Core.Path.{_≡_}
 use mathlib.Core.Logic.{_⊎_}
 use mathlib.Core.List.{List}
-use lib.ListN.{getD}
 use Rattle.bestset.specs.Sets.{In, total}
+use Rattle.bestset.specs.Reading.{valueAt}
 use Rattle.bestset.specs.Masked.{Below, Beats, Answers}
 use Rattle.bestset.specs.declared.search.Best.{Best}
 use Rattle.bestset.specs.declared.search.Best.the-variants.{Chosen}
-
--- the value at a position; 0 past the list
-abbrev pub valueAt : List ℕ → ℕ → ℕ
-valueAt values i = getD values i 0
-
--- a list has by position what f gives for each result held, and 0 past them
-pub record ByPosition (f : ℕ → ℕ) (held : ℕ) (values : List ℕ) : Type 0 where
-  pub each : (i : ℕ) → i < held → valueAt values i ≡ f i
-  pub rest : (i : ℕ) → held ≤ i → valueAt values i ≡ 0
 
 -- what is sought in: at most 16 results are held, the kept ones are among them, and no score is over 10000
 pub record Sought (mask : ℕ) (scores : List ℕ) (held : ℕ) : Type 0 where

@@ -4,7 +4,7 @@ ghost use mathlib.Core.Bool.{_&&_};
 ghost use Prim.Native.Nat.{_≤_, _<_};
 ghost use Rattle.bestset.specs.Results.{held};
 ghost use Rattle.bestset.specs.Counting.{student};
-ghost use Rattle.bestset.specs.Masked.{marked, withOne, Masked};
+ghost use Rattle.bestset.specs.Sorts.{marked, withOne, Masked};
 use crate::counting;
 use crate::reading;
 use crate::search::Masks;

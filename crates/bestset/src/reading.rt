@@ -2,9 +2,8 @@
 ghost use mathlib.Core.Path.{_≡_};
 ghost use Prim.Native.Nat.{_≤_, _<_};
 ghost use Rattle.bestset.specs.Results.{held, subjectOf, letterOf, numberOf, yearOf, kindOf, strandOf, levelOf};
-ghost use Rattle.bestset.specs.Reading.{score, identity, scoreFound};
+ghost use Rattle.bestset.specs.Reading.{score, identity, scoreFound, ByPosition};
 ghost use Rattle.bestset.specs.Inner.{ResultAt};
-ghost use Rattle.bestset.specs.Trying.{ByPosition};
 ghost use Rattle.subjects.specs.Promise.{looked};
 use paper::bytes;
 use subjects::entries;

@@ -5,7 +5,8 @@ ghost use mathlib.Core.Path.{_≡_};
 ghost use lib.Count.{ones};
 ghost use Rattle.bestset.specs.Sets.{In};
 ghost use Rattle.bestset.specs.Masked.{Below, Distinct, Repeated, Allowed, Decides, Beats, Answers};
-ghost use Rattle.bestset.specs.Trying.{valueAt, Sought, key, room, Tried, Stands, Bettered};
+ghost use Rattle.bestset.specs.Trying.{Sought, key, room, Tried, Stands, Bettered};
+ghost use Rattle.bestset.specs.Reading.{valueAt};
 
 // The kept results, and those of each sort that the rules of sets ask for: bit i for result i.
 pub(crate) struct Masks {

@@ -3,8 +3,8 @@ ghost use mathlib.Core.Path.{_≡_};
 ghost use Rattle.bestset.specs.Counting.{student};
 ghost use Rattle.bestset.specs.Promise.{said};
 ghost use Rattle.capi.specs.Best.{flatBest, BestCalled};
+use crate::telling::tell;
 use bestset::Answer;
-use paper::refusal;
 
 // Accepted: refusal and place are 0. Refused: aggregate and set are 0.
 #[repr(C)]
@@ -25,12 +25,15 @@ fn flatten(answer: Answer) -> Best
             aggregate,
             set,
         },
-        Answer::Refused(x) => Best {
-            refusal: refusal::number(x) as u64,
-            place: refusal::place(x) as u64,
-            aggregate: 0,
-            set: 0,
-        },
+        Answer::Refused(x) => {
+            let told = tell(x);
+            Best {
+                refusal: told.refusal,
+                place: told.place,
+                aggregate: 0,
+                set: 0,
+            }
+        }
     }
 }
 

@@ -2,8 +2,8 @@
 ghost use mathlib.Core.Path.{_≡_};
 ghost use Rattle.curve.specs.Promise.{said};
 ghost use Rattle.capi.specs.Participation.{flatCurve, CurveCalled};
+use crate::telling::tell;
 use curve::Answer;
-use paper::refusal;
 
 // Accepted: refusal and place are 0. Refused: population and rate are 0.
 #[repr(C)]
@@ -24,12 +24,15 @@ fn flatten(answer: Answer) -> Curve
             population,
             rate,
         },
-        Answer::Refused(x) => Curve {
-            refusal: refusal::number(x) as u64,
-            place: refusal::place(x) as u64,
-            population: 0,
-            rate: 0,
-        },
+        Answer::Refused(x) => {
+            let told = tell(x);
+            Curve {
+                refusal: told.refusal,
+                place: told.place,
+                population: 0,
+                rate: 0,
+            }
+        }
     }
 }
 

@@ -3,8 +3,8 @@ ghost use mathlib.Core.Path.{_≡_};
 ghost use Prim.Native.Nat.{_≤_};
 ghost use Rattle.bands.specs.Promise.{said};
 ghost use Rattle.capi.specs.Placing.{remainderOf, flatPlaced, DirectCalled, TallyCalled};
+use crate::telling::tell;
 use bands::Answer;
-use paper::refusal;
 
 // Accepted: refusal and place are 0. Refused: the remainder is 0.
 #[repr(C)]
@@ -25,11 +25,14 @@ fn flatten(answer: Answer) -> Placed
             place: 0,
             remainder: remainder as u32,
         },
-        Answer::Refused(x) => Placed {
-            refusal: refusal::number(x) as u64,
-            place: refusal::place(x) as u64,
-            remainder: 0,
-        },
+        Answer::Refused(x) => {
+            let told = tell(x);
+            Placed {
+                refusal: told.refusal,
+                place: told.place,
+                remainder: 0,
+            }
+        }
     }
 }
 

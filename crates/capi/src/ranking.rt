@@ -2,7 +2,7 @@
 ghost use mathlib.Core.Path.{_≡_};
 ghost use Rattle.ranks.specs.Promise.{said};
 ghost use Rattle.capi.specs.Ranking.{flatRanked, RankCalled};
-use paper::refusal;
+use crate::telling::tell;
 use ranks::Answer;
 
 // Accepted: both are 0.
@@ -20,10 +20,13 @@ fn flatten(answer: Answer) -> Ranked
             refusal: 0,
             place: 0,
         },
-        Answer::Refused(x) => Ranked {
-            refusal: refusal::number(x) as u64,
-            place: refusal::place(x) as u64,
-        },
+        Answer::Refused(x) => {
+            let told = tell(x);
+            Ranked {
+                refusal: told.refusal,
+                place: told.place,
+            }
+        }
     }
 }
 

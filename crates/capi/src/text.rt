@@ -2,7 +2,7 @@
 ghost use mathlib.Core.Path.{_≡_};
 ghost use Rattle.report.specs.Promise.{said};
 ghost use Rattle.capi.specs.Text.{flatText, ReportCalled};
-use paper::refusal;
+use crate::telling::tell;
 use report::Answer;
 
 // Accepted: refusal and place are 0. Refused: the length is 0.
@@ -22,11 +22,14 @@ fn flatten(answer: Answer) -> Text
             place: 0,
             length: length as u64,
         },
-        Answer::Refused(x) => Text {
-            refusal: refusal::number(x) as u64,
-            place: refusal::place(x) as u64,
-            length: 0,
-        },
+        Answer::Refused(x) => {
+            let told = tell(x);
+            Text {
+                refusal: told.refusal,
+                place: told.place,
+                length: 0,
+            }
+        }
     }
 }
 

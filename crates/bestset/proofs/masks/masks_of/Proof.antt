@@ -1,5 +1,5 @@
 use Rattle.bestset.proofs.Marks.{masked-none, masked-one}
-use Rattle.bestset.specs.Masked.{Masked}
+use Rattle.bestset.specs.Sorts.{Masked}
 use Rattle.bestset.specs.Counting.{student}
 use Rattle.bestset.specs.Results.{held}
 use mathlib.Core.Path.{_≡_, subst}

@@ -1,6 +1,5 @@
 use Rattle.bestset.proofs.Scores.{read-none, read-next}
-use Rattle.bestset.specs.Trying.{ByPosition}
-use Rattle.bestset.specs.Reading.{score, identity}
+use Rattle.bestset.specs.Reading.{score, identity, ByPosition}
 use Rattle.bestset.specs.Results.{held}
 use lib.ListN.{length, length-set}
 use mathlib.Core.Path.{_≡_, refl, subst}

@@ -1,5 +1,5 @@
 use Rattle.bestset.proofs.Meets.{length-set, count-set, both, apart-one, apart-other, decide}
-use Rattle.bestset.specs.Trying.{valueAt}
+use Rattle.bestset.specs.Reading.{valueAt}
 use Rattle.bestset.specs.Masked.{Allowed, Distinct, Apart}
 use borrow.Author.Tests.{eqb-true, eqb-false, not-true, not-false}
 use mathlib.Core.Logic.{⊎-elim}

@@ -1,6 +1,6 @@
 use Rattle.bestset.proofs.Digits.{test-in, test-not}
 use Rattle.bestset.specs.Masked.{Repeated}
-use Rattle.bestset.specs.Trying.{valueAt}
+use Rattle.bestset.specs.Reading.{valueAt}
 use Rattle.bestset.specs.Sets.{In}
 use borrow.Author.Count.{below-more}
 use mathlib.Core.Logic.{⊎-elim}

@@ -1,5 +1,5 @@
 use Rattle.bestset.proofs.Digits.{test-in, test-not}
-use Rattle.bestset.specs.Trying.{valueAt}
+use Rattle.bestset.specs.Reading.{valueAt}
 use Rattle.bestset.specs.Sets.{In}
 use borrow.Author.Count.{below-more}
 use borrow.Author.Tests.{eqb-true, eqb-false}

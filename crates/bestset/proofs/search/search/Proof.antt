@@ -1,6 +1,7 @@
 use Rattle.bestset.proofs.Steps.{fives, left, starts, short, skips, more, joins, back, out-most, out-fewer, out, out-less, finish, sum-fits, skip-less, join-less}
 use Rattle.bestset.proofs.Digits.{test-in, test-out}
-use Rattle.bestset.specs.Trying.{valueAt, key, room, Tried, Stands}
+use Rattle.bestset.specs.Trying.{key, room, Tried, Stands}
+use Rattle.bestset.specs.Reading.{valueAt}
 use Rattle.bestset.specs.Masked.{Allowed}
 use Rattle.bestset.specs.Sets.{In}
 use borrow.Author.Tests.{leb-true, leb-false}

@@ -1,6 +1,7 @@
 use Rattle.bestset.proofs.Steps.{fives, short, skips, more, joins, after, sum-fits}
 use Rattle.bestset.proofs.Digits.{test-in, test-out}
-use Rattle.bestset.specs.Trying.{valueAt, room, Stands}
+use Rattle.bestset.specs.Trying.{room, Stands}
+use Rattle.bestset.specs.Reading.{valueAt}
 use Rattle.bestset.specs.Masked.{Allowed}
 use mathlib.Core.Logic.{⊎-elim}
 use mathlib.Core.Path.{refl}

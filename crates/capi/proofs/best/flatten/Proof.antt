@@ -1,12 +1,11 @@
-use Rattle.capi.specs.Best.{flatBest}
-use Rattle.bestset.specs.declared.Answer.{Answer}
-use Rattle.bestset.specs.Promise.{said}
 use mathlib.Core.Path.{sym, ap}
+use Rattle.bestset.specs.Promise.{said}
+use Rattle.bestset.specs.declared.Answer.{Answer}
+use Rattle.capi.specs.Best.{flatBest}
 use borrow.Author.Needs.{needs}
 use Rattle.capi.proofs.best.flatten.Statement.{statement}
 use Rattle.capi.proofs.best.flatten.Tie as tie
-use Rattle.paper.proofs.refusal.number.Reads as number-reads
-use Rattle.paper.proofs.refusal.place.Reads as place-reads
+use Rattle.capi.proofs.telling.tell.Reads as tell-reads
 
 enum-known-answer : tie.Need-enum-known-answer
 enum-known-answer c = search needs
@@ -14,29 +13,15 @@ enum-known-answer c = search needs
 enum-known-answer-2 : tie.Need-enum-known-answer-2
 enum-known-answer-2 c = search needs
 
-number-requires : tie.Need-number-requires
-number-requires c κs = search needs
-
-cast-t7 : tie.Need-cast-t7
-cast-t7 c = search needs
-
-place-requires : tie.Need-place-requires
-place-requires c κs = search needs
+tell-requires : tie.Need-tell-requires
+tell-requires c κs = search needs
 
 returns : tie.Need-returns
 returns c = sym (ap (λ (a : Answer). flatBest (said a)) (c .before .answer .given .1))
 
 returns-2 : tie.Need-returns-2
-returns-2 c = rw (c .before .number .ensures, c .place .ensures) (sym (ap (λ (a : Answer). flatBest (said a)) (c .before .before .before .answer2 .given .1)))
+returns-2 c = rw (c .tell .ensures .0, c .tell .ensures .1) (sym (ap (λ (a : Answer). flatBest (said a)) (c .before .before .answer2 .given .1)))
 
 pub flatten-spec : {M : Type 1} → statement M
 flatten-spec =
-    tie.close
-    (tie.spec
-    enum-known-answer
-    enum-known-answer-2
-    number-requires
-    cast-t7
-    place-requires
-    returns
-    returns-2)
+    tie.close (tie.spec enum-known-answer enum-known-answer-2 tell-requires returns returns-2)

@@ -1,12 +1,11 @@
-use Rattle.capi.specs.Ranking.{flatRanked}
-use Rattle.ranks.specs.declared.Answer.{Answer}
-use Rattle.ranks.specs.Promise.{said}
 use mathlib.Core.Path.{sym, ap}
+use Rattle.ranks.specs.Promise.{said}
+use Rattle.ranks.specs.declared.Answer.{Answer}
+use Rattle.capi.specs.Ranking.{flatRanked}
 use borrow.Author.Needs.{needs}
 use Rattle.capi.proofs.ranking.flatten.Statement.{statement}
 use Rattle.capi.proofs.ranking.flatten.Tie as tie
-use Rattle.paper.proofs.refusal.number.Reads as number-reads
-use Rattle.paper.proofs.refusal.place.Reads as place-reads
+use Rattle.capi.proofs.telling.tell.Reads as tell-reads
 
 enum-told : tie.Need-enum-told
 enum-told c = search needs
@@ -14,22 +13,14 @@ enum-told c = search needs
 enum-known-answer : tie.Need-enum-known-answer
 enum-known-answer c = search needs
 
-number-requires : tie.Need-number-requires
-number-requires c κs = search needs
-
-cast-t5 : tie.Need-cast-t5
-cast-t5 c = search needs
-
-place-requires : tie.Need-place-requires
-place-requires c κs = search needs
+tell-requires : tie.Need-tell-requires
+tell-requires c κs = search needs
 
 returns : tie.Need-returns
 returns c = sym (ap (λ (a : Answer). flatRanked (said a)) (c .enum-told .given .1))
 
 returns-2 : tie.Need-returns-2
-returns-2 c = rw (c .before .number .ensures, c .place .ensures) (sym (ap (λ (a : Answer). flatRanked (said a)) (c .before .before .before .answer .given .1)))
+returns-2 c = rw (c .tell .ensures .0, c .tell .ensures .1) (sym (ap (λ (a : Answer). flatRanked (said a)) (c .before .before .answer .given .1)))
 
 pub flatten-spec : {M : Type 1} → statement M
-flatten-spec =
-    tie.close
-    (tie.spec enum-told enum-known-answer number-requires cast-t5 place-requires returns returns-2)
+flatten-spec = tie.close (tie.spec enum-told enum-known-answer tell-requires returns returns-2)
