@@ -12,7 +12,7 @@
  * All memory is the caller's, before, during and after a call. Nothing is kept, nothing is allocated, and there is no state: calls
  * over different buffers may run at once. Numbers in bytes are big-endian; arrays of numbers are the machine's own.
  *
- * Link with libcapi.a, for x86-64 Linux.
+ * Link with libshtegomir.a, for x86-64 Linux.
  */
 #ifndef SHTEGOMIR_H
 #define SHTEGOMIR_H

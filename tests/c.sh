@@ -1,7 +1,7 @@
 # How a C program that links the proved library is built and run, on x86-64 and on Arm, where it runs under the kit's emulator.
 # Sourced by tests/run at the root of the repository.
 
-library=target/staticlib/libcapi.a
+library=target/staticlib/libshtegomir.a
 warnings='-std=c99 -D_POSIX_C_SOURCE=199309L -Wall -Wextra -Werror -Iinclude'
 
 # build_c PROGRAM SOURCE..

@@ -7,16 +7,16 @@ use mathlib.Core.List.{List, [], _∷_}
 use lib.ListN.{length, getD, replicate, getD-replicate, set}
 use lib.Dec.{ltb, lit<}
 use borrow.Author.Tests.{lt-ltb, le-ltb}
-use Rattle.paper.specs.Lists.{sum, count, first, total, listed, firstOver, someOver}
+use Rattle.paper.specs.Limits.{mostAggregate, bandCount, mostEntry, mostTallied}
+use Rattle.paper.specs.Lists.{sum, count, first, sumOf, listed, firstOver, someOver}
 use Rattle.paper.proofs.Firsts.{first-here, none-has}
 use Rattle.paper.specs.Rulings.{accepted, refused, _at_}
-use Rattle.bands.specs.Placing.{numberAt, places, remainder}
-use Rattle.bands.specs.Search.{bandUpTo, bandsOf}
-use Rattle.bands.specs.Promise.{ruling, tallyRuling}
-
--- all 1000000
-unfoldable pub full : List ℕ
-full = replicate 2000 1000000
+use Rattle.tally.specs.Counts.{numberAt}
+use Rattle.tally.specs.Places.{places, bandUpTo}
+use Rattle.tally.specs.Examples.{full}
+use Rattle.bands.specs.Placing.{remainder}
+use Rattle.bands.specs.Search.{bandsOf}
+use Rattle.bands.specs.Promise.{ruling, Lent, lent, tallyRuling}
 
 -- 400.00, 400.00, 300.00
 abbrev pub three : List ℕ
@@ -24,12 +24,12 @@ three = 40000 ∷ 40000 ∷ 30000 ∷ []
 
 -- Y=2000: 99.90, 99.90, 99.85. Y=1000: half a place in each band, so that one student has 99.90, which equality fits
 pub bands : (bandsOf three full 2000 ≡ 1998 ∷ 1998 ∷ 1997 ∷ []) × (bandsOf (40000 ∷ []) full 1000 ≡ 1998 ∷ [])
-unfolding bandsOf listed bandUpTo places full count sum total
+unfolding bandsOf listed bandUpTo places full count sum sumOf
 bands = (refl, refl)
 
 -- the remainder: none of those, one of two at Y=1, both where they are tied
 pub remainders : (remainder three full 2000 ≡ 0) × (remainder (40000 ∷ 30000 ∷ []) full 1 ≡ 1) × (remainder (30000 ∷ 30000 ∷ []) full 1 ≡ 2)
-unfolding remainder places full count sum total
+unfolding remainder places full count sum sumOf
 remainders = (refl, refl, refl)
 
 -- the tally: two have 400.00, one has 300.00, none has 350.00
@@ -44,26 +44,26 @@ faulty = set (set full 3 1000001) 7 1000001
 abbrev pub high : List ℕ
 high = 50000 ∷ 50001 ∷ []
 
-pub full-within : someOver 1000000 full ≡ false
+pub full-within : someOver mostEntry full ≡ false
 unfolding full
 full-within =
-    none-has 2000 (λ i. ltb 1000000 (getD (replicate 2000 1000000) i 0))
-    (λ i l. let e : getD (replicate 2000 1000000) i 0 ≤ 1000000 = omega (arith, getD-replicate {A = ℕ} 2000 i 1000000 0 l) in le-ltb 1000000 (getD (replicate 2000 1000000) i 0) e)
+    none-has bandCount (λ i. ltb mostEntry (getD (replicate bandCount mostEntry) i 0))
+    (λ i l. let e : getD (replicate bandCount mostEntry) i 0 ≤ mostEntry = omega (arith, getD-replicate {A = ℕ} bandCount i mostEntry 0 l) in le-ltb mostEntry (getD (replicate bandCount mostEntry) i 0) e)
 
-pub within : (someOver 50000 three ≡ false) × (someOver 50000 (40000 ∷ 30000 ∷ []) ≡ false) × (someOver 50000 [] ≡ false)
+pub within : (someOver mostAggregate three ≡ false) × (someOver mostAggregate (40000 ∷ 30000 ∷ []) ≡ false) × (someOver mostAggregate [] ≡ false)
 unfolding first
 within = (refl, refl, refl)
 
-before-three : (i : ℕ) → i < 3 → ltb 1000000 (getD faulty i 0) ≡ false
+before-three : (i : ℕ) → i < 3 → ltb mostEntry (getD faulty i 0) ≡ false
 unfolding full
 before-three zero l = refl
 before-three (suc zero) l = refl
 before-three (suc (suc zero)) l = refl
 before-three (suc (suc (suc i))) l = absurd (omega arith)
 
-pub places-over : (firstOver 1000000 faulty ≡ 3) × (firstOver 50000 high ≡ 1)
+pub places-over : (firstOver mostEntry faulty ≡ 3) × (firstOver mostAggregate high ≡ 1)
 unfolding full first
-places-over = (first-here 2000 (λ i. ltb 1000000 (getD faulty i 0)) 3 (lit< tt) before-three refl, refl)
+places-over = (first-here bandCount (λ i. ltb mostEntry (getD faulty i 0)) 3 (lit< tt) before-three refl, refl)
 
 -- each with all that follows wrong as well: 513 students, a short table, no population, an entry, an aggregate
 pub refusals : (ruling (replicate 513 50001) [] 0 [] ≡ refused (2 at 512)) × (ruling high (1000001 ∷ []) 0 (0 ∷ 0 ∷ []) ≡ refused (11 at 0))
@@ -83,9 +83,9 @@ unfolding full remainder count sum
 nobody = (rw (full-within, within .2) refl, refl)
 
 -- by tally: over 100000 students; no counts
-pub too-many : (aggregates table : List ℕ) (Y : ℕ) (counts lent : List ℕ) → 100000 < length aggregates → tallyRuling aggregates table Y counts lent ≡ refused (2 at 100000)
-too-many aggregates table Y counts lent h = simp (lt-ltb 100000 (length aggregates) h) refl
+pub too-many : (aggregates table : List ℕ) (Y : ℕ) (before : Lent) → mostTallied < length aggregates → tallyRuling aggregates table Y before ≡ refused (2 at mostTallied)
+too-many aggregates table Y before h = simp (lt-ltb mostTallied (length aggregates) h) refl
 
-pub no-counts : tallyRuling three full 0 [] (0 ∷ 0 ∷ 0 ∷ []) ≡ refused (11 at 0)
+pub no-counts : tallyRuling three full 0 (lent [] (0 ∷ 0 ∷ 0 ∷ [])) ≡ refused (11 at 0)
 unfolding full
 no-counts = refl

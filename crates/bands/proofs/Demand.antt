@@ -1,34 +1,25 @@
 -- Demand 3, of every accepted call of either entry.
 use Prim.Native.Nat.{ℕ, _≤_, _<_}
 use native.Mathlib.Omega.{arith}
-use mathlib.Core.Path.{_≡_, refl, sym, _∙_}
+use mathlib.Core.Path.{_≡_, sym, _∙_}
 use mathlib.Core.List.{List}
 use lib.ListN.{length, getD}
 use lib.Dec.{eqb}
+use Rattle.paper.specs.Limits.{bandCount}
 use Rattle.paper.specs.Lists.{sum, count}
-use Rattle.paper.specs.Rulings.{Outcome, accepted, refused}
 use Rattle.paper.proofs.Ruled.{given-values}
-use Rattle.bands.specs.Placing.{numberAt, Best, remainder}
-use Rattle.bands.specs.Promise.{ruling, tallyRuling, Owed, TallyOwed, Promise, TallyPromise}
+use Rattle.tally.specs.Counts.{numberAt}
+use Rattle.tally.proofs.Counting.{count-one}
+use Rattle.bands.specs.Placing.{BestPlacement, remainder}
+use Rattle.bands.specs.Promise.{directRules, Promise, Lent, tallyRules, TallyPromise}
 use Rattle.bands.specs.Given.{Given, directly, byTally}
 use Rattle.bands.specs.declared.Answer.the-variants.{Accepted}
-use Rattle.bands.proofs.Counting.{count-one}
 use Rattle.bands.proofs.Placed.{best-once, best-stable, keeps-totals}
-use Rattle.bands.proofs.Promised.{directRules, tallyRules}
 
 -- the bands are the best placement, and the remainder is the paper's
-pub given-best : (aggregates table : List ℕ) (Y n : ℕ) (bands : List ℕ) → Given aggregates table Y n bands → Best aggregates table Y bands × (n ≡ remainder aggregates table Y)
-given-best aggregates table Y n bands (directly before h) = go (ruling aggregates table Y before) refl h
-  where
-    go : (o : Outcome ℕ) → ruling aggregates table Y before ≡ o → Owed aggregates table Y before (Accepted n) bands o → Best aggregates table Y bands × (n ≡ remainder aggregates table Y)
-    go (accepted m) e h = let z : n ≡ m = cc (h .0) in (h .1, z ∙ given-values (directRules aggregates table Y before) (remainder aggregates table Y) m e)
-    go (refused f) e h = absurd (let z : _≡_ {A = ℕ} 0 1 = cc (h .0) in omega arith)
-given-best aggregates table Y n bands (byTally counts before after h) = go (tallyRuling aggregates table Y counts before) refl h
-  where
-    go : (o : Outcome ℕ) → tallyRuling aggregates table Y counts before ≡ o → TallyOwed aggregates table Y counts before (Accepted n) after bands o
-        → Best aggregates table Y bands × (n ≡ remainder aggregates table Y)
-    go (accepted m) e h = let z : n ≡ m = cc (h .0) in (h .1, z ∙ given-values (tallyRules aggregates table Y counts before) (remainder aggregates table Y) m e)
-    go (refused f) e h = absurd (let z : _≡_ {A = ℕ} 0 1 = cc (h .0) in omega arith)
+pub given-best : (aggregates table : List ℕ) (Y n : ℕ) (bands : List ℕ) → Given aggregates table Y n bands → BestPlacement aggregates table Y bands × (n ≡ remainder aggregates table Y)
+given-best aggregates table Y n bands (directly before h) = (h .leaves, given-values (directRules aggregates table Y (length before)) (remainder aggregates table Y) n (sym (h .says)))
+given-best aggregates table Y n bands (byTally before counts h) = (h .leaves .best, given-values (tallyRules aggregates table Y (length (before .bands)) (length (before .counts))) (remainder aggregates table Y) n (sym (h .says)))
 
 -- with table and Y kept, a student's band stays when those with lower aggregates are changed, removed or joined by others:
 -- the students at and above agree in number for each aggregate, in whatever order they are listed
@@ -39,13 +30,13 @@ stable xs ys table Y m n bands others a b = best-stable xs ys table Y bands othe
 
 -- every student is in one of the 2000 bands
 pub one-band : (aggregates table : List ℕ) (Y n : ℕ) (bands : List ℕ) → Given aggregates table Y n bands
-    → (length bands ≡ length aggregates) × ((i : ℕ) → i < length aggregates → count 2000 (λ k. eqb (getD bands i 0) k) ≡ 1)
+    → (length bands ≡ length aggregates) × ((i : ℕ) → i < length aggregates → count bandCount (λ k. eqb (getD bands i 0) k) ≡ 1)
 one-band aggregates table Y n bands a =
     let k = given-best aggregates table Y n bands a .0 .keeps in
-    (k .long, λ i l. count-one 2000 (getD bands i 0) (omega (arith, k .within i l)))
+    (k .long, λ i l. count-one bandCount (getD bands i 0) (omega (arith, k .within i l)))
 
 -- and the band totals add up to the cohort
-pub totals : (aggregates table : List ℕ) (Y n : ℕ) (bands : List ℕ) → Given aggregates table Y n bands → sum 2000 (numberAt bands) ≡ length aggregates
+pub totals : (aggregates table : List ℕ) (Y n : ℕ) (bands : List ℕ) → Given aggregates table Y n bands → sum bandCount (numberAt bands) ≡ length aggregates
 totals aggregates table Y n bands a = keeps-totals aggregates table Y bands (given-best aggregates table Y n bands a .0 .keeps)
 
 -- whatever two accepted calls give for one cohort, table and Y is the same
@@ -56,7 +47,7 @@ given-once aggregates table Y m n bands others a b =
     (x .1 ∙ sym (y .1), best-once aggregates table Y bands others (x .0) (y .0))
 
 -- so the two entries agree wherever both accept
-pub agree : (aggregates table : List ℕ) (Y m n : ℕ) (before bands counts before′ after others : List ℕ)
-    → Promise aggregates table Y before (Accepted m) bands → TallyPromise aggregates table Y counts before′ (Accepted n) after others → (m ≡ n) × (bands ≡ others)
-agree aggregates table Y m n before bands counts before′ after others a b =
-    given-once aggregates table Y m n bands others (directly before a) (byTally counts before′ after b)
+pub agree : (aggregates table : List ℕ) (Y m n : ℕ) (before bands : List ℕ) (before′ after : Lent)
+    → Promise aggregates table Y before (Accepted m) bands → TallyPromise aggregates table Y before′ (Accepted n) after → (m ≡ n) × (bands ≡ after .bands)
+agree aggregates table Y m n before bands before′ after a b =
+    given-once aggregates table Y m n bands (after .bands) (directly before a) (byTally before′ (after .counts) b)

@@ -1,170 +1,104 @@
 -- The promises determine the answer and the buffers, and the computed ones meet them.
-use Prim.Native.Nat.{ℕ, _≤_, _<_}
+use Prim.Native.Nat.{ℕ, _≤_}
 use native.Mathlib.Omega.{arith}
-use mathlib.Core.Path.{_≡_, refl, sym, ap, subst, _∙_}
-use mathlib.Core.Bool.{Bool, true, false, _&&_}
-use mathlib.Core.List.{List, [], _∷_}
+use mathlib.Core.Path.{_≡_, refl, ap}
+use mathlib.Core.List.{List, _∷_, _++_}
 use lib.ListN.{length}
-use lib.Dec.{eqb}
-use lib.Seq.{ext-getD}
 use borrow.Author.Tests.{ltb-false, eqb-true, not-false}
-use Rattle.paper.specs.Rulings.{Outcome, accepted, refused, Rule, _⇒_, judged}
+use Rattle.paper.specs.Limits.{mostAggregate, mostPopulation, bandCount, mostEntry, mostStudents, mostTallied, tallyCount}
+use Rattle.paper.specs.Promises.{Tells, Owes}
+use Rattle.paper.proofs.Promised as every
 use Rattle.paper.specs.Lists.{firstOver}
-use Rattle.paper.proofs.Booleans.{both-true}
 use Rattle.paper.proofs.Firsts.{none-over}
-use Rattle.paper.proofs.Listing.{length-listed, at-list}
-use Rattle.paper.proofs.Ruled.{refusal-fault, all-kept, Tabled, Refusing, tabled}
-use Rattle.bands.specs.Placing.{numberAt, remainder, Tallied}
-use Rattle.bands.specs.Search.{bandsOf, tallyOf}
-use Rattle.bands.specs.Promise.{said, bandRules, lengthsFit, ruling, Owed, Promise, tallyRuling, TallyOwed, TallyPromise, answer, bandsLeft, countsLeft}
+use Rattle.paper.proofs.Ranging.{within-true}
+use Rattle.paper.proofs.Ruled.{refusal-fault, Unbroken, kept-parts, Tabled, tabled}
+use Rattle.tally.specs.Counts.{tallyOf}
+use Rattle.tally.proofs.Tallies.{tally-exists, tally-once}
+use Rattle.bands.specs.Placing.{BestPlacement, remainder}
+use Rattle.bands.specs.Search.{bandsOf}
+use Rattle.bands.specs.Promise.{said, sizeRules, countsRule, tableRules, aggregateRules, directRules, ruling, Promise, Lent, lent, tallyRules, tallyRuling, Placed, TallyPromise, answer, left, tallyLeft}
 use Rattle.bands.specs.Inner.{Ready}
 use Rattle.bands.specs.declared.Answer.{Answer}
 use Rattle.bands.specs.declared.Answer.the-variants.{Accepted, Refused}
 use Rattle.bands.proofs.Placed.{best-exists, best-once}
 
 -- what is said tells the answer
-pub answer-said : (r : Answer) → answer (said r) ≡ r
-answer-said (Accepted n) = refl
-answer-said (Refused x) = ap Refused (refusal-fault x)
-
-pub said-once : (r s : Answer) → said r ≡ said s → r ≡ s
-said-once r s e = sym (answer-said r) ∙ ap answer e ∙ answer-said s
-
--- a tally is one
-pub tally-once : (aggregates counts others : List ℕ) → Tallied aggregates counts → Tallied aggregates others → counts ≡ others
-tally-once aggregates counts others a b =
-    ext-getD 0 counts others (a .long ∙ sym (b .long)) (λ t l. let m : t < 50001 = omega (arith, a .long) in a .each t m ∙ sym (b .each t m))
-
-pub tally-exists : (aggregates : List ℕ) → Tallied aggregates (tallyOf aggregates)
-unfolding tallyOf
-tally-exists aggregates = record { long = length-listed 0 50001 (numberAt aggregates); each = λ t l. at-list 50001 (numberAt aggregates) t l }
-
--- two permitted results are equal
-pub determined : (aggregates table : List ℕ) (Y : ℕ) (bands : List ℕ) (r s : Answer) (bands₁ bands₂ : List ℕ)
-    → Promise aggregates table Y bands r bands₁ → Promise aggregates table Y bands s bands₂ → (r ≡ s) × (bands₁ ≡ bands₂)
-determined aggregates table Y bands r s bands₁ bands₂ = go (ruling aggregates table Y bands)
+pub tells : Tells said Accepted Refused
+tells = record { accepting = λ n. refl; refusing = λ x. refl; told = told }
   where
-    go : (o : Outcome ℕ) → Owed aggregates table Y bands r bands₁ o → Owed aggregates table Y bands s bands₂ o → (r ≡ s) × (bands₁ ≡ bands₂)
-    go (accepted n) a b = (said-once r s (a .0 ∙ sym (b .0)), best-once aggregates table Y bands₁ bands₂ (a .1) (b .1))
-    go (refused f) a b = (said-once r s (a .0 ∙ sym (b .0)), a .1 ∙ sym (b .1))
-
-pub tally-determined : (aggregates table : List ℕ) (Y : ℕ) (counts bands : List ℕ) (r s : Answer) (counts₁ bands₁ counts₂ bands₂ : List ℕ)
-    → TallyPromise aggregates table Y counts bands r counts₁ bands₁ → TallyPromise aggregates table Y counts bands s counts₂ bands₂ → (r ≡ s) × (counts₁ ≡ counts₂) × (bands₁ ≡ bands₂)
-tally-determined aggregates table Y counts bands r s counts₁ bands₁ counts₂ bands₂ = go (tallyRuling aggregates table Y counts bands)
-  where
-    go : (o : Outcome ℕ) → TallyOwed aggregates table Y counts bands r counts₁ bands₁ o → TallyOwed aggregates table Y counts bands s counts₂ bands₂ o
-        → (r ≡ s) × (counts₁ ≡ counts₂) × (bands₁ ≡ bands₂)
-    go (accepted n) a b = (said-once r s (a .0 ∙ sym (b .0)), tally-once aggregates counts₁ counts₂ (a .2) (b .2), best-once aggregates table Y bands₁ bands₂ (a .1) (b .1))
-    go (refused f) a b = (said-once r s (a .0 ∙ sym (b .0)), a .2 ∙ sym (b .2), a .1 ∙ sym (b .1))
-
--- the rules of each entry
-abbrev pub directRules : List ℕ → List ℕ → ℕ → List ℕ → List Rule
-directRules aggregates table Y bands = bandRules 512 (lengthsFit aggregates table bands) aggregates table Y
-
-abbrev pub tallyRules : List ℕ → List ℕ → ℕ → List ℕ → List ℕ → List Rule
-tallyRules aggregates table Y counts bands = bandRules 100000 (lengthsFit aggregates table bands && eqb (length counts) 50001) aggregates table Y
+    told : (r : Answer) → answer (said r) ≡ r
+    told (Accepted n) = refl
+    told (Refused x) = ap Refused (refusal-fault x)
 
 -- each rule gives a number and place of the paper's table
-rules-tabled : (most : ℕ) (fit : Bool) (aggregates table : List ℕ) (Y : ℕ) → Tabled (bandRules most fit aggregates table Y)
-rules-tabled most fit aggregates table Y = (refl, (refl, (refl, (refl, (refl, (refl, tt))))))
+direct-tabled : (aggregates table : List ℕ) (Y bands : ℕ) → Tabled (directRules aggregates table Y bands)
+direct-tabled aggregates table Y bands = (λ e. refl, (λ e. refl, (λ e. refl, (λ e. refl, (λ e. refl, (λ e. refl, tt))))))
 
--- the computed answer and buffers are permitted
-pub meets : (aggregates table : List ℕ) (Y : ℕ) (bands : List ℕ)
-    → Promise aggregates table Y bands (answer (ruling aggregates table Y bands)) (bandsLeft aggregates table Y bands (ruling aggregates table Y bands))
-meets aggregates table Y bands =
-    go (ruling aggregates table Y bands) (tabled (directRules aggregates table Y bands) (remainder aggregates table Y) (rules-tabled 512 (lengthsFit aggregates table bands) aggregates table Y))
-  where
-    go : (o : Outcome ℕ) → Refusing o → Owed aggregates table Y bands (answer o) (bandsLeft aggregates table Y bands o) o
-    go (accepted n) h = (refl, best-exists aggregates table Y)
-    go (refused f) h = (ap refused h, refl)
+tally-tabled : (aggregates table : List ℕ) (Y bands counts : ℕ) → Tabled (tallyRules aggregates table Y bands counts)
+tally-tabled aggregates table Y bands counts = (λ e. refl, (λ e. refl, (λ e. refl, (λ e. refl, (λ e. refl, (λ e. refl, (λ e. refl, tt)))))))
 
-pub tally-meets : (aggregates table : List ℕ) (Y : ℕ) (counts bands : List ℕ)
-    → TallyPromise aggregates table Y counts bands (answer (tallyRuling aggregates table Y counts bands))
-    (countsLeft aggregates counts (tallyRuling aggregates table Y counts bands)) (bandsLeft aggregates table Y bands (tallyRuling aggregates table Y counts bands))
-tally-meets aggregates table Y counts bands =
-    go (tallyRuling aggregates table Y counts bands)
-    (tabled (tallyRules aggregates table Y counts bands) (remainder aggregates table Y) (rules-tabled 100000 (lengthsFit aggregates table bands && eqb (length counts) 50001) aggregates table Y))
-  where
-    go : (o : Outcome ℕ) → Refusing o → TallyOwed aggregates table Y counts bands (answer o) (countsLeft aggregates counts o) (bandsLeft aggregates table Y bands o) o
-    go (accepted n) h = (refl, best-exists aggregates table Y, tally-exists aggregates)
-    go (refused f) h = (ap refused h, refl, refl)
+-- by direct count: the computed answer and bands are permitted, no others are, and two permitted results are equal
+module _ (aggregates table : List ℕ) (Y : ℕ) (before : List ℕ) where
+  pub owes : Owes (λ n. BestPlacement aggregates table Y) (ruling aggregates table Y before) (λ n. bandsOf aggregates table Y)
+  owes = record { met = λ n e. best-exists aggregates table Y; only = λ n b x. best-once aggregates table Y b _ x (best-exists aggregates table Y) }
 
--- and no other
-pub only : (aggregates table : List ℕ) (Y : ℕ) (bands : List ℕ) (r : Answer) (bands′ : List ℕ) → Promise aggregates table Y bands r bands′
-    → (r ≡ answer (ruling aggregates table Y bands)) × (bands′ ≡ bandsLeft aggregates table Y bands (ruling aggregates table Y bands))
-only aggregates table Y bands r bands′ h = determined aggregates table Y bands r _ bands′ _ h (meets aggregates table Y bands)
+  pub meets : let o = ruling aggregates table Y before in Promise aggregates table Y before (answer o) (left aggregates table Y before o)
+  meets = every.meets tells every.rules-is owes (tabled (directRules aggregates table Y (length before)) (remainder aggregates table Y) (direct-tabled aggregates table Y (length before)))
 
-pub tally-only : (aggregates table : List ℕ) (Y : ℕ) (counts bands : List ℕ) (r : Answer) (counts′ bands′ : List ℕ) → TallyPromise aggregates table Y counts bands r counts′ bands′
-    → (r ≡ answer (tallyRuling aggregates table Y counts bands)) × (counts′ ≡ countsLeft aggregates counts (tallyRuling aggregates table Y counts bands))
-    × (bands′ ≡ bandsLeft aggregates table Y bands (tallyRuling aggregates table Y counts bands))
-tally-only aggregates table Y counts bands r counts′ bands′ h = tally-determined aggregates table Y counts bands r _ counts′ bands′ _ _ h (tally-meets aggregates table Y counts bands)
+  pub only : {r : Answer} {b : List ℕ} → Promise aggregates table Y before r b → let o = ruling aggregates table Y before in (r ≡ answer o) × (b ≡ left aggregates table Y before o)
+  only = every.only tells every.rules-is owes
 
--- where the ruling accepts, that is the remainder, the computed bands and the tally
-pub only-accepted : (aggregates table : List ℕ) (Y : ℕ) (bands : List ℕ) (n : ℕ) → ruling aggregates table Y bands ≡ accepted n
-    → (r : Answer) (bands′ : List ℕ) → Promise aggregates table Y bands r bands′ → (r ≡ Accepted n) × (bands′ ≡ bandsOf aggregates table Y)
-only-accepted aggregates table Y bands n e r bands′ h =
-    let o = only aggregates table Y bands r bands′ h in
-    (o .0 ∙ ap answer e, o .1 ∙ ap (bandsLeft aggregates table Y bands) e)
+  pub determined : {r s : Answer} {b c : List ℕ} → Promise aggregates table Y before r b → Promise aggregates table Y before s c → (r ≡ s) × (b ≡ c)
+  determined = every.determined tells every.rules-is owes
 
-pub tally-only-accepted : (aggregates table : List ℕ) (Y : ℕ) (counts bands : List ℕ) (n : ℕ) → tallyRuling aggregates table Y counts bands ≡ accepted n
-    → (r : Answer) (counts′ bands′ : List ℕ) → TallyPromise aggregates table Y counts bands r counts′ bands′
-    → (r ≡ Accepted n) × (counts′ ≡ tallyOf aggregates) × (bands′ ≡ bandsOf aggregates table Y)
-tally-only-accepted aggregates table Y counts bands n e r counts′ bands′ h =
-    let o = tally-only aggregates table Y counts bands r counts′ bands′ h in
-    (o .0 ∙ ap answer e, o .1 ∙ ap (countsLeft aggregates counts) e, o .2 ∙ ap (bandsLeft aggregates table Y bands) e)
+-- by tally the same of both buffers
+module _ (aggregates table : List ℕ) (Y : ℕ) (before : Lent) where
+  pub tally-owes : Owes (λ n. Placed aggregates table Y) (tallyRuling aggregates table Y before) (λ n. lent (tallyOf aggregates) (bandsOf aggregates table Y))
+  tally-owes = record {
+    met = λ n e. record { best = best-exists aggregates table Y; tallied = tally-exists aggregates };
+    only = λ n b x.
+        let counts = tally-once aggregates (b .counts) (tallyOf aggregates) (x .tallied) (tally-exists aggregates) in
+        let bands = best-once aggregates table Y (b .bands) (bandsOf aggregates table Y) (x .best) (best-exists aggregates table Y) in
+        λ i. lent (counts i) (bands i);
+  }
 
--- what is ruled with no value is ruled with any
-abbrev given : Outcome (Unit {0}) → ℕ → Outcome ℕ
-given (accepted u) n = accepted n
-given (refused f) n = refused f
+  pub tally-meets : let o = tallyRuling aggregates table Y before in TallyPromise aggregates table Y before (answer o) (tallyLeft aggregates table Y before o)
+  tally-meets =
+      let bands = length (before .bands) in
+      let counts = length (before .counts) in
+      every.meets tells every.rules-is tally-owes (tabled (tallyRules aggregates table Y bands counts) (remainder aggregates table Y) (tally-tabled aggregates table Y bands counts))
 
-ruled-with : (rules : List Rule) (n : ℕ) → given (judged rules tt) n ≡ judged rules n
-ruled-with [] n = refl
-ruled-with (true ⇒ f ∷ rules) n = refl
-ruled-with (false ⇒ f ∷ rules) n = ruled-with rules n
+  pub tally-only : {r : Answer} {b : Lent} → TallyPromise aggregates table Y before r b
+      → let o = tallyRuling aggregates table Y before in (r ≡ answer o) × (b ≡ tallyLeft aggregates table Y before o)
+  tally-only = every.only tells every.rules-is tally-owes
 
--- so what is owed as the screening rules is promised
-pub screened : (aggregates table : List ℕ) (Y : ℕ) (bands : List ℕ) (r : Answer) (bands′ : List ℕ) (o : Outcome (Unit {0})) → o ≡ judged (directRules aggregates table Y bands) tt
-    → Owed aggregates table Y bands r bands′ (given o (remainder aggregates table Y)) → Promise aggregates table Y bands r bands′
-screened aggregates table Y bands r bands′ o e =
-    let n = remainder aggregates table Y in
-    subst (Owed aggregates table Y bands r bands′) (ap (λ (o : Outcome (Unit {0})). given o n) e ∙ ruled-with (directRules aggregates table Y bands) n)
-
-pub tally-screened : (aggregates table : List ℕ) (Y : ℕ) (counts bands : List ℕ) (r : Answer) (counts′ bands′ : List ℕ) (o : Outcome (Unit {0}))
-    → o ≡ judged (tallyRules aggregates table Y counts bands) tt
-    → TallyOwed aggregates table Y counts bands r counts′ bands′ (given o (remainder aggregates table Y)) → TallyPromise aggregates table Y counts bands r counts′ bands′
-tally-screened aggregates table Y counts bands r counts′ bands′ o e =
-    let n = remainder aggregates table Y in
-    subst (TallyOwed aggregates table Y counts bands r counts′ bands′) (ap (λ (o : Outcome (Unit {0})). given o n) e ∙ ruled-with (tallyRules aggregates table Y counts bands) n)
+  pub tally-determined : {r s : Answer} {b c : Lent} → TallyPromise aggregates table Y before r b → TallyPromise aggregates table Y before s c → (r ≡ s) × (b ≡ c)
+  tally-determined = every.determined tells every.rules-is tally-owes
 
 -- what the screening clears is ready to be placed
-ready : (most : ℕ) (fit : Bool) (aggregates table : List ℕ) (Y : ℕ) (bands : List ℕ) → most ≤ 100000 → (fit ≡ true → lengthsFit aggregates table bands ≡ true)
-    → judged {A = Unit {0}} (bandRules most fit aggregates table Y) tt ≡ accepted tt → Ready aggregates table Y bands × (fit ≡ true)
-ready most fit aggregates table Y bands m fits h =
-    let k = all-kept (bandRules most fit aggregates table Y) tt tt h in
-    let e : fit ≡ true = not-false fit (k .1 .0) in
-    let l = both-true (eqb (length table) 2000) (eqb (length bands) (length aggregates)) (fits e) in (
-      record {
-        students = record {
-          few = omega (arith, ltb-false most (length aggregates) (k .0));
-          each = none-over 50000 aggregates (ltb-false (firstOver 50000 aggregates) (length aggregates) (k .1 .1 .1 .1 .1 .0));
-        };
-        sized = record {
-          long = eqb-true (length table) 2000 (l .0);
-          each = none-over 1000000 table (ltb-false (firstOver 1000000 table) (length table) (k .1 .1 .1 .1 .0));
-        };
-        people = ltb-false 1000000 Y (k .1 .1 .1 .0);
-        lent = eqb-true (length bands) (length aggregates) (l .1);
-      },
-      e,
-    )
+ready : (limit : ℕ) (aggregates table : List ℕ) (Y : ℕ) (bands : List ℕ) → limit ≤ mostTallied → Unbroken (sizeRules limit (length aggregates) (length table) (length bands))
+    → Unbroken (tableRules Y table ++ aggregateRules aggregates) → Ready aggregates table Y bands
+ready limit aggregates table Y bands m s k =
+    record {
+      students = record {
+        few = omega (arith, ltb-false limit (length aggregates) (s .0));
+        each = none-over mostAggregate aggregates (ltb-false (firstOver mostAggregate aggregates) (length aggregates) (k .1 .1 .0));
+      };
+      sized = record {
+        long = eqb-true (length table) bandCount (not-false _ (s .1 .0));
+        each = none-over mostEntry table (ltb-false (firstOver mostEntry table) (length table) (k .1 .0));
+      };
+      people = within-true 1 mostPopulation Y (not-false _ (k .0)) .1;
+      lent = eqb-true (length bands) (length aggregates) (not-false _ (s .1 .1 .0));
+    }
 
-pub direct-ready : (aggregates table : List ℕ) (Y : ℕ) (bands : List ℕ) → accepted tt ≡ judged {A = Unit {0}} (directRules aggregates table Y bands) tt → Ready aggregates table Y bands
-direct-ready aggregates table Y bands h = ready 512 (lengthsFit aggregates table bands) aggregates table Y bands (omega arith) (λ e. e) (sym h) .0
+pub direct-ready : (aggregates table : List ℕ) (Y : ℕ) (bands : List ℕ) → Unbroken (directRules aggregates table Y (length bands)) → Ready aggregates table Y bands
+direct-ready aggregates table Y bands h =
+    let k = kept-parts (sizeRules mostStudents (length aggregates) (length table) (length bands)) (tableRules Y table ++ aggregateRules aggregates) h in
+    ready mostStudents aggregates table Y bands (omega arith) (k .0) (k .1)
 
-pub tally-ready : (aggregates table : List ℕ) (Y : ℕ) (counts bands : List ℕ) → accepted tt ≡ judged {A = Unit {0}} (tallyRules aggregates table Y counts bands) tt
-    → Ready aggregates table Y bands × (length counts ≡ 50001)
-tally-ready aggregates table Y counts bands h =
-    let both = both-true (lengthsFit aggregates table bands) (eqb (length counts) 50001) in
-    let r = ready 100000 (lengthsFit aggregates table bands && eqb (length counts) 50001) aggregates table Y bands (omega arith) (λ e. both e .0) (sym h) in
-    (r .0, eqb-true (length counts) 50001 (both (r .1) .1))
+pub tally-ready : (aggregates table : List ℕ) (Y : ℕ) (bands counts : List ℕ) → Unbroken (tallyRules aggregates table Y (length bands) (length counts))
+    → Ready aggregates table Y bands × (length counts ≡ tallyCount)
+tally-ready aggregates table Y bands counts h =
+    let k = kept-parts (sizeRules mostTallied (length aggregates) (length table) (length bands)) (countsRule (length counts) ∷ tableRules Y table ++ aggregateRules aggregates) h in
+    (ready mostTallied aggregates table Y bands (omega arith) (k .0) (k .1 .1), eqb-true (length counts) tallyCount (not-false _ (k .1 .0)))

@@ -1,15 +1,18 @@
 -- What the two entries promise, for every input.
 use Prim.Native.Nat.{ℕ}
-use mathlib.Core.Path.{_≡_}
-use mathlib.Core.Bool.{Bool, not, _&&_}
-use mathlib.Core.List.{List, [], _∷_}
+use mathlib.Core.Bool.{not}
+use mathlib.Core.List.{List, [], _∷_, _++_}
 use lib.ListN.{length}
-use lib.Dec.{ltb, eqb}
+use Rattle.paper.specs.Limits.{mostAggregate, mostPopulation, bandCount, mostEntry, mostStudents, mostTallied, tallyCount}
 use Rattle.paper.specs.Lists.{firstOver, someOver}
+use Rattle.paper.specs.Ranges.{within}
 use Rattle.paper.specs.Rulings.{Outcome, accepted, refused, Rule, _⇒_, _at_, judged}
-use Rattle.paper.specs.Refusals.{fault, refusal}
-use Rattle.bands.specs.Placing.{Best, remainder, Tallied}
-use Rattle.bands.specs.Search.{bandsOf, tallyOf}
+use Rattle.paper.specs.Refusals.{fault}
+use Rattle.paper.specs.Words.{_<?_, _≠?_}
+use Rattle.paper.specs.Promises.{Promised, Is, answered, filled}
+use Rattle.tally.specs.Counts.{Tallied, tallyOf}
+use Rattle.bands.specs.Placing.{BestPlacement, remainder}
+use Rattle.bands.specs.Search.{bandsOf}
 use Rattle.bands.specs.declared.Answer.{Answer}
 use Rattle.bands.specs.declared.Answer.the-variants.{Accepted, Refused}
 
@@ -18,58 +21,75 @@ abbrev pub said : Answer → Outcome ℕ
 said (Accepted n) = accepted n
 said (Refused x) = refused (fault x)
 
--- 2: over the entry's limit; 11: a lent buffer or the table of another length; 9: Y zero or over 1000000, at 0;
--- 13: an entry over 1000000; 12: an aggregate over 50000
-abbrev pub bandRules : ℕ → Bool → List ℕ → List ℕ → ℕ → List Rule
-bandRules most fit aggregates table Y =
-    ltb most (length aggregates) ⇒ 2 at most
-    ∷ not fit ⇒ 11 at 0
-    ∷ eqb Y 0 ⇒ 9 at 0
-    ∷ ltb 1000000 Y ⇒ 9 at 0
-    ∷ someOver 1000000 table ⇒ 13 at firstOver 1000000 table
-    ∷ someOver 50000 aggregates ⇒ 12 at firstOver 50000 aggregates
+-- a limit, and how many students, entries of the table and lent bands there are
+-- 2: more students than the limit; 11: not 2000 entries, or not a band for each student
+abbrev pub sizeRules : ℕ → ℕ → ℕ → ℕ → List Rule
+sizeRules limit students entries bands =
+    limit <? students ⇒ 2 at limit
+    ∷ entries ≠? bandCount ⇒ 11 at 0
+    ∷ bands ≠? students ⇒ 11 at 0
     ∷ []
 
--- the table has 2000 entries, and there is a band for each student
-abbrev pub lengthsFit : List ℕ → List ℕ → List ℕ → Bool
-lengthsFit aggregates table bands = eqb (length table) 2000 && eqb (length bands) (length aggregates)
+-- how many counts are lent. 11: not 50001
+abbrev pub countsRule : ℕ → Rule
+countsRule counts = counts ≠? tallyCount ⇒ 11 at 0
 
--- by direct count up to 512 students
+-- 9: Y zero or over 1000000; 13: an entry over 1000000
+abbrev pub tableRules : ℕ → List ℕ → List Rule
+tableRules Y table =
+    not (within 1 mostPopulation Y) ⇒ 9 at 0
+    ∷ someOver mostEntry table ⇒ 13 at firstOver mostEntry table
+    ∷ []
+
+-- 12: an aggregate over 50000
+abbrev pub aggregateRules : List ℕ → List Rule
+aggregateRules aggregates = someOver mostAggregate aggregates ⇒ 12 at firstOver mostAggregate aggregates ∷ []
+
+-- by direct count up to 512 students: aggregates, table, Y, how many bands are lent
+abbrev pub directRules : List ℕ → List ℕ → ℕ → ℕ → List Rule
+directRules aggregates table Y bands =
+    sizeRules mostStudents (length aggregates) (length table) bands
+    ++ (tableRules Y table ++ aggregateRules aggregates)
+
+-- aggregates, table, Y, the lent bands
 abbrev pub ruling : List ℕ → List ℕ → ℕ → List ℕ → Outcome ℕ
-ruling aggregates table Y bands = judged (bandRules 512 (lengthsFit aggregates table bands) aggregates table Y) (remainder aggregates table Y)
+ruling aggregates table Y bands = judged (directRules aggregates table Y (length bands)) (remainder aggregates table Y)
 
--- accepted: the remainder, and the best placement; refused: the number and the place, and the bands as they were
-abbrev pub Owed : List ℕ → List ℕ → ℕ → List ℕ → Answer → List ℕ → Outcome ℕ → Type 0
-Owed aggregates table Y bands r bands′ (accepted n) = (said r ≡ accepted n) × Best aggregates table Y bands′
-Owed aggregates table Y bands r bands′ (refused f) = (said r ≡ refused f) × (bands′ ≡ bands)
-
+-- aggregates, table, Y, the bands before, the answer, the bands after: accepted, they are the best placement
 abbrev pub Promise : List ℕ → List ℕ → ℕ → List ℕ → Answer → List ℕ → Type 0
-Promise aggregates table Y bands r bands′ = Owed aggregates table Y bands r bands′ (ruling aggregates table Y bands)
+Promise aggregates table Y before r after = Promised said (Is (ruling aggregates table Y before)) (λ n. BestPlacement aggregates table Y) before r after
 
--- by tally up to 100000 students, with a lent buffer of 50001 counts
-abbrev pub tallyRuling : List ℕ → List ℕ → ℕ → List ℕ → List ℕ → Outcome ℕ
-tallyRuling aggregates table Y counts bands =
-    judged (bandRules 100000 (lengthsFit aggregates table bands && eqb (length counts) 50001) aggregates table Y) (remainder aggregates table Y)
+-- by tally up to 100000 students, with a lent buffer of 50001 counts: the content of both buffers
+pub record Lent : Type 0 where
+  pub counts : List ℕ
+  pub bands : List ℕ
 
--- the same of bands and remainder; accepted: the tally in the counts; refused: the counts as they were
-abbrev pub TallyOwed : List ℕ → List ℕ → ℕ → List ℕ → List ℕ → Answer → List ℕ → List ℕ → Outcome ℕ → Type 0
-TallyOwed aggregates table Y counts bands r counts′ bands′ (accepted n) =
-    (said r ≡ accepted n) × Best aggregates table Y bands′ × Tallied aggregates counts′
-TallyOwed aggregates table Y counts bands r counts′ bands′ (refused f) = (said r ≡ refused f) × (bands′ ≡ bands) × (counts′ ≡ counts)
+abbrev pub lent : List ℕ → List ℕ → Lent
+lent counts bands = record { counts = counts; bands = bands }
 
-abbrev pub TallyPromise : List ℕ → List ℕ → ℕ → List ℕ → List ℕ → Answer → List ℕ → List ℕ → Type 0
-TallyPromise aggregates table Y counts bands r counts′ bands′ =
-    TallyOwed aggregates table Y counts bands r counts′ bands′ (tallyRuling aggregates table Y counts bands)
+-- aggregates, table, Y, how many bands and how many counts are lent
+abbrev pub tallyRules : List ℕ → List ℕ → ℕ → ℕ → ℕ → List Rule
+tallyRules aggregates table Y bands counts =
+    sizeRules mostTallied (length aggregates) (length table) bands
+    ++ (countsRule counts ∷ tableRules Y table ++ aggregateRules aggregates)
 
--- the answer and the buffers, computed
+abbrev pub tallyRuling : List ℕ → List ℕ → ℕ → Lent → Outcome ℕ
+tallyRuling aggregates table Y before = judged (tallyRules aggregates table Y (length (before .bands)) (length (before .counts))) (remainder aggregates table Y)
+
+-- the best placement in the bands, the tally in the counts
+pub record Placed (aggregates table : List ℕ) (Y : ℕ) (after : Lent) : Type 0 where
+  pub best : BestPlacement aggregates table Y (after .bands)
+  pub tallied : Tallied aggregates (after .counts)
+
+abbrev pub TallyPromise : List ℕ → List ℕ → ℕ → Lent → Answer → Lent → Type 0
+TallyPromise aggregates table Y before r after = Promised said (Is (tallyRuling aggregates table Y before)) (λ n. Placed aggregates table Y) before r after
+
+-- the answer and the buffers of an outcome, computed
 abbrev pub answer : Outcome ℕ → Answer
-answer (accepted n) = Accepted n
-answer (refused f) = Refused (refusal f)
+answer = answered Accepted Refused
 
-abbrev pub bandsLeft : List ℕ → List ℕ → ℕ → List ℕ → Outcome ℕ → List ℕ
-bandsLeft aggregates table Y bands (accepted n) = bandsOf aggregates table Y
-bandsLeft aggregates table Y bands (refused f) = bands
+abbrev pub left : List ℕ → List ℕ → ℕ → List ℕ → Outcome ℕ → List ℕ
+left aggregates table Y = filled (λ n. bandsOf aggregates table Y)
 
-abbrev pub countsLeft : List ℕ → List ℕ → Outcome ℕ → List ℕ
-countsLeft aggregates counts (accepted n) = tallyOf aggregates
-countsLeft aggregates counts (refused f) = counts
+abbrev pub tallyLeft : List ℕ → List ℕ → ℕ → Lent → Outcome ℕ → Lent
+tallyLeft aggregates table Y = filled (λ n. lent (tallyOf aggregates) (bandsOf aggregates table Y))

@@ -1,16 +1,11 @@
 // The placing of students in bands: by direct count, and by tally.
-ghost use Rattle.bands.specs.Promise.{Promise, TallyPromise};
-use crate::screening::Verdict;
-use paper::limits::BANDS;
-use paper::limits::MOST_DIRECT;
-use paper::limits::MOST_TALLIED;
-use paper::limits::TALLY;
+ghost use Rattle.bands.specs.Promise.{Promise, lent, TallyPromise};
 use paper::refusal::Refusal;
+use paper::screening::Verdict;
 
+mod by_tally;
 mod direct;
 mod screening;
-mod search;
-mod tally;
 
 // The remainder, or what is wrong.
 pub enum Answer {
@@ -22,8 +17,7 @@ pub enum Answer {
 pub fn place(aggregates: &[u32], table: &[u32], population: u32, bands: &mut [u16]) -> Answer
     ensures { λ r. ⌜ Promise (now (aggregates .entry)) (now (table .entry)) population (now (bands .entry)) r (now (bands .exit)) ⌝ }
 {
-    let fit = table.len() == BANDS && bands.len() == aggregates.len();
-    let verdict = screening::screen(MOST_DIRECT, fit, aggregates, table, population);
+    let verdict = screening::direct(aggregates, table, population, bands.len());
     if let Verdict::Refused(x) = verdict {
         return Answer::Refused(x);
     }
@@ -39,13 +33,12 @@ pub fn place_by_tally(
     counts: &mut [u32],
     bands: &mut [u16],
 ) -> Answer
-    ensures { λ r. ⌜ TallyPromise (now (aggregates .entry)) (now (table .entry)) population (now (counts .entry)) (now (bands .entry)) r (now (counts .exit)) (now (bands .exit)) ⌝ }
+    ensures { λ r. ⌜ TallyPromise (now (aggregates .entry)) (now (table .entry)) population (lent (now (counts .entry)) (now (bands .entry))) r (lent (now (counts .exit)) (now (bands .exit))) ⌝ }
 {
-    let fit = table.len() == BANDS && bands.len() == aggregates.len() && counts.len() == TALLY;
-    let screened = screening::screen(MOST_TALLIED, fit, aggregates, table, population);
+    let screened = screening::by_tally(aggregates, table, population, bands.len(), counts.len());
     if let Verdict::Refused(x) = screened {
         return Answer::Refused(x);
     }
-    let remainder = tally::place_all(aggregates, table, population, counts, bands);
+    let remainder = by_tally::place_all(aggregates, table, population, counts, bands);
     Answer::Accepted { remainder }
 }

@@ -8,10 +8,11 @@ use mathlib.Core.Bool.{Bool, true, false, _&&_, _||_, or-true, true≢false, fal
 use mathlib.Core.List.{List, [], _∷_}
 use lib.Dec.{ltb, eqb}
 use borrow.Author.Tests.{ltb-true, ltb-false, eqb-true, lt-ltb, eq-eqb}
+use Rattle.paper.specs.Limits.{mostResults}
 use Rattle.paper.specs.Lists.{pick}
-use Rattle.bestset.specs.Sets.{positions, Earlier}
+use Rattle.seek.specs.Sets.{positions, Earlier}
 use Rattle.bestset.specs.Computed.{earlier, Choice, none, one, better, choose, chosen}
-use Rattle.bestset.proofs.Order.{trans, either}
+use Rattle.seek.proofs.Order.{trans, either}
 
 -- one of two tests holds, the second being two in one
 either-true : (a b c : Bool) {P Q R : Type 0} → (a ≡ true → P) → (b ≡ true → Q) → (c ≡ true → R) → (a || (b && c)) ≡ true → P ⊎ (Q × R)
@@ -64,7 +65,7 @@ abbrev pub Led : (ℕ → Bool) → (ℕ → ℕ) → ℕ → Choice → Type 0
 Led right worth n none = (t : ℕ) → t < n → right t ≡ true → ⊥
 Led right worth n (one set) = Leads right worth n set
 
-module _ (right : ℕ → Bool) (worth : ℕ → ℕ) (n : ℕ) (w : n < 2 ^ 16) where
+module _ (right : ℕ → Bool) (worth : ℕ → ℕ) (n : ℕ) (w : n < 2 ^ mostResults) where
   -- what holds of the numbers below n, and of n
   upto : (P : ℕ → Type 0) → ((t : ℕ) → t < n → P t) → P n → (t : ℕ) → t < suc n → P t
   upto P all here t l = ⊎-elim (λ (e : t ≡ n). subst P (sym e) here) (λ (h : t < n). all t h) (eq-or-lt-of-le (le-of-suc-le-suc l))
@@ -125,7 +126,7 @@ module _ (right : ℕ → Bool) (worth : ℕ → ℕ) (n : ℕ) (w : n < 2 ^ 16)
   step true e c h = one-more e c h
   step false e c h = passed-by e c h
 
-pub chosen-led : (right : ℕ → Bool) (worth : ℕ → ℕ) (n : ℕ) → n ≤ 2 ^ 16 → Led right worth n (chosen right worth n)
+pub chosen-led : (right : ℕ → Bool) (worth : ℕ → ℕ) (n : ℕ) → n ≤ 2 ^ mostResults → Led right worth n (chosen right worth n)
 unfolding chosen
 chosen-led right worth zero w = λ t l r. absurd (omega arith)
 chosen-led right worth (suc n) w = step right worth n w (right n) refl (chosen right worth n) (chosen-led right worth n (omega arith))

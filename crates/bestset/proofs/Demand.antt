@@ -6,10 +6,11 @@ use mathlib.Core.Bool.{Bool, true, false, not}
 use mathlib.Core.List.{List, [], _∷_}
 use Rattle.paper.specs.Rulings.{Fault, Outcome, accepted, refused, Rule, _⇒_, _at_, judged}
 use Rattle.paper.proofs.Ruled.{all-kept, after-kept}
-use Rattle.bestset.specs.Counting.{Student, english}
+use Rattle.results.specs.Results.{Student}
+use Rattle.results.specs.Counting.{showsEnglish}
 use Rattle.bestset.specs.Admissible.{Admissible}
 use Rattle.bestset.specs.Rules.{studentRules}
-use Rattle.bestset.specs.Promise.{Values, said, WellFormed, Chosen, Answered, Owed, Promise}
+use Rattle.bestset.specs.Promise.{Values, said, WellFormed, Chosen, Answered, RuledBy, Promise}
 use Rattle.bestset.specs.declared.Answer.{Answer}
 
 -- no set is admissible
@@ -22,56 +23,56 @@ englishRules shown = not shown ⇒ 7 at 0 ∷ []
 
 module _ (s : Student) (table : List ℕ) (formed : WellFormed s table) (r : Answer) (promised : Promise s table r) where
   -- English alone is left to rule on
-  owed : (shown : Bool) → english s ≡ shown → Owed s table (said r) (judged (englishRules shown) tt)
-  owed shown e =
-      subst (Owed s table (said r))
-      (after-kept (studentRules s table) (englishRules (english s)) tt (all-kept (studentRules s table) tt tt formed) ∙ ap (λ (b : Bool). judged (englishRules b) tt) e)
-      promised
+  ruled : (shown : Bool) → showsEnglish s ≡ shown → RuledBy s table (judged (englishRules shown) tt) (said r)
+  ruled shown e =
+      subst (λ (o : Outcome (Unit {0})). RuledBy s table o (said r))
+      (after-kept (studentRules s table) (englishRules (showsEnglish s)) tt (all-kept (studentRules s table) tt tt formed) ∙ ap (λ (b : Bool). judged (englishRules b) tt) e)
+      (promised .says)
 
   -- without English: exactly 7
-  pub no-english : english s ≡ false → said r ≡ refused (7 at 0)
-  no-english e = owed false e
+  pub no-english : showsEnglish s ≡ false → said r ≡ refused (7 at 0)
+  no-english e = ruled false e
 
   -- with English: an admissible set that none exceeds, where some set is admissible
-  pub some-set : english s ≡ true → (set : ℕ) → Admissible s set → (v : Values) × (said r ≡ accepted v) × Chosen s table v
-  some-set e set a = go (said r) refl (owed true e)
+  pub some-set : showsEnglish s ≡ true → (set : ℕ) → Admissible s set → (v : Values) × (said r ≡ accepted v) × Chosen s table v
+  some-set e set a = go (said r) refl (ruled true e)
     where
       go : (o : Outcome Values) → said r ≡ o → Answered s table o → (v : Values) × (said r ≡ accepted v) × Chosen s table v
       go (accepted v) is h = (v, is, h)
       go (refused f) is h = absurd (h .1 set a)
 
   -- exactly 8, where none is
-  pub no-set : english s ≡ true → NoneAdmissible s → said r ≡ refused (8 at 0)
-  no-set e none = go (said r) (owed true e)
+  pub no-set : showsEnglish s ≡ true → NoneAdmissible s → said r ≡ refused (8 at 0)
+  no-set e none = go (said r) (ruled true e)
     where
       go : (o : Outcome Values) → Answered s table o → o ≡ refused (8 at 0)
       go (accepted v) h = absurd (none (v .set) (h .admissible))
       go (refused f) h = ap refused (h .0)
 
   -- a refusal with English shown, whatever it is, is 8, and no set is admissible
-  pub refused-with-english : english s ≡ true → (f : Fault) → said r ≡ refused f → (f ≡ 8 at 0) × NoneAdmissible s
-  refused-with-english e f is = subst (Answered s table) is (owed true e)
+  pub refused-with-english : showsEnglish s ≡ true → (f : Fault) → said r ≡ refused f → (f ≡ 8 at 0) × NoneAdmissible s
+  refused-with-english e f is = subst (Answered s table) is (ruled true e)
 
   -- a set is given only where English is shown, and it is as above
-  pub only-some-set : (v : Values) → said r ≡ accepted v → (english s ≡ true) × Chosen s table v
-  only-some-set v is = go (english s) refl
+  pub only-some-set : (v : Values) → said r ≡ accepted v → (showsEnglish s ≡ true) × Chosen s table v
+  only-some-set v is = go (showsEnglish s) refl
     where
-      go : (shown : Bool) → english s ≡ shown → (shown ≡ true) × Chosen s table v
-      go true e = (refl, subst (Answered s table) is (owed true e))
+      go : (shown : Bool) → showsEnglish s ≡ shown → (shown ≡ true) × Chosen s table v
+      go true e = (refl, subst (Answered s table) is (ruled true e))
       go false e = absurd (let h = no-english e in let z : _≡_ {A = ℕ} 0 1 = cc in omega arith)
 
   -- 7 only where it is not shown
-  pub only-no-english : said r ≡ refused (7 at 0) → english s ≡ false
-  only-no-english is = go (english s) refl
+  pub only-no-english : said r ≡ refused (7 at 0) → showsEnglish s ≡ false
+  only-no-english is = go (showsEnglish s) refl
     where
-      go : (shown : Bool) → english s ≡ shown → shown ≡ false
+      go : (shown : Bool) → showsEnglish s ≡ shown → shown ≡ false
       go true e = absurd (let h = refused-with-english e (7 at 0) is .0 in let z : _≡_ {A = ℕ} 7 8 = cc in omega arith)
       go false e = refl
 
   -- 8 only where it is shown and no set is admissible
-  pub only-no-set : said r ≡ refused (8 at 0) → (english s ≡ true) × NoneAdmissible s
-  only-no-set is = go (english s) refl
+  pub only-no-set : said r ≡ refused (8 at 0) → (showsEnglish s ≡ true) × NoneAdmissible s
+  only-no-set is = go (showsEnglish s) refl
     where
-      go : (shown : Bool) → english s ≡ shown → (shown ≡ true) × NoneAdmissible s
+      go : (shown : Bool) → showsEnglish s ≡ shown → (shown ≡ true) × NoneAdmissible s
       go true e = (refl, refused-with-english e (8 at 0) is .1)
       go false e = absurd (let h = sym is ∙ no-english e in let z : _≡_ {A = ℕ} 8 7 = cc in omega arith)

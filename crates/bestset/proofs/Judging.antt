@@ -1,51 +1,48 @@
--- Laws of the judging of a student.
-use Prim.Native.Nat.{ℕ, _≤_, _<_}
-use mathlib.Core.Path.{_≡_, refl, _∙_}
-use mathlib.Core.Bool.{Bool, true, false, not}
-use mathlib.Core.List.{List, [], _∷_, _++_}
-use lib.Dec.{leb, ltb}
-use borrow.Author.Tests.{leb-true, leb-false, lt-ltb, le-ltb}
-use Rattle.paper.specs.Rulings.{Fault, Outcome, refused, Rule, judged, inTurn}
-use Rattle.paper.proofs.Ruled.{Kept, after-kept, before-refused}
-use Rattle.subjects.specs.Catalogue.{catalogueRules}
-use Rattle.bestset.specs.Results.{held}
-use Rattle.bestset.specs.Counting.{Student}
-use Rattle.bestset.specs.Rules.{resultRules, lengthRules, repeatRule, studentRules}
-
--- a is below b where b is not at most a
-pub ltb-not : (a b : ℕ) → ltb a b ≡ not (leb b a)
-ltb-not a b = go (leb b a) (leb-true b a) (leb-false b a)
-  where
-    go : (t : Bool) → (t ≡ true → b ≤ a) → (t ≡ false → a < b) → ltb a b ≡ not t
-    go true up past = le-ltb a b (up refl)
-    go false up past = lt-ltb a b (past refl)
+-- Laws of the judging of a student: the first part of the rules that refuses decides.
+use Prim.Native.Nat.{ℕ, _≤_}
+use mathlib.Core.Path.{_≡_, sym, ap, _∙_}
+use mathlib.Core.List.{List, [], _∷_, _++_, append-assoc}
+use borrow.Author.Tests.{ltb-false}
+use Rattle.paper.specs.Limits.{mostResults}
+use Rattle.paper.specs.Rulings.{Fault, Outcome, refused, Rule, judged}
+use Rattle.paper.proofs.Ruled.{Unbroken, all-kept, kept-parts, after-kept, before-refused}
+use Rattle.catalogue.specs.Catalogue.{catalogueRules}
+use Rattle.results.specs.Results.{Student, held}
+use Rattle.bestset.specs.Rules.{inputRules, turnRules, repeatRule, studentRules}
+use Rattle.bestset.specs.InnerJudging.{readRules, Readable}
 
 -- what rules decide
 abbrev pub judges : List Rule → Outcome (Unit {0})
 judges rules = judged rules tt
 
--- the rules for one student: the first part of them that refuses decides
 module _ (s : Student) (table : List ℕ) where
-  -- the rules of each result in turn
-  abbrev pub turns : List Rule
-  turns = inTurn (held (s .results)) (resultRules s table)
+  pub catalogue-refused : (f : Fault) → judges (catalogueRules (s .catalogue)) ≡ refused f → judges (readRules s table) ≡ refused f
+  catalogue-refused f e = before-refused (catalogueRules (s .catalogue)) (inputRules s table ++ turnRules s table) tt tt f e
 
-  pub catalogue-refused : (n : ℕ) (f : Fault) → judged (catalogueRules (s .catalogue)) n ≡ refused f → judges (studentRules s table) ≡ refused f
-  catalogue-refused n f e = before-refused (catalogueRules (s .catalogue)) (lengthRules s table ++ (turns ++ (repeatRule s ∷ []))) n tt f e
+  module _ (whole : Unbroken (catalogueRules (s .catalogue))) where
+    input-left : judges (readRules s table) ≡ judges (inputRules s table ++ turnRules s table)
+    input-left = after-kept (catalogueRules (s .catalogue)) (inputRules s table ++ turnRules s table) tt whole
 
-  module _ (whole : Kept (catalogueRules (s .catalogue))) where
-    lengths-left : judges (studentRules s table) ≡ judges (lengthRules s table ++ (turns ++ (repeatRule s ∷ [])))
-    lengths-left = after-kept (catalogueRules (s .catalogue)) (lengthRules s table ++ (turns ++ (repeatRule s ∷ []))) tt whole
+    pub input-refused : (f : Fault) → judges (inputRules s table) ≡ refused f → judges (readRules s table) ≡ refused f
+    input-refused f e = input-left ∙ before-refused (inputRules s table) (turnRules s table) tt tt f e
 
-    pub lengths-refused : (f : Fault) → judges (lengthRules s table) ≡ refused f → judges (studentRules s table) ≡ refused f
-    lengths-refused f e = lengths-left ∙ before-refused (lengthRules s table) (turns ++ (repeatRule s ∷ [])) tt tt f e
+    pub results-left : Unbroken (inputRules s table) → judges (readRules s table) ≡ judges (turnRules s table)
+    results-left sized = input-left ∙ after-kept (inputRules s table) (turnRules s table) tt sized
 
-    module _ (sized : Kept (lengthRules s table)) where
-      results-left : judges (studentRules s table) ≡ judges (turns ++ (repeatRule s ∷ []))
-      results-left = lengths-left ∙ after-kept (lengthRules s table) (turns ++ (repeatRule s ∷ [])) tt sized
+  -- the rules before 6 decide first, and once they are kept 6 does
+  grouped : readRules s table ++ (repeatRule s ∷ []) ≡ studentRules s table
+  grouped =
+      append-assoc (catalogueRules (s .catalogue)) (inputRules s table ++ turnRules s table) (repeatRule s ∷ [])
+      ∙ ap (λ (rules : List Rule). catalogueRules (s .catalogue) ++ rules) (append-assoc (inputRules s table) (turnRules s table) (repeatRule s ∷ []))
 
-      pub results-refused : (f : Fault) → judges turns ≡ refused f → judges (studentRules s table) ≡ refused f
-      results-refused f e = results-left ∙ before-refused turns (repeatRule s ∷ []) tt tt f e
+  pub read-refused : (f : Fault) → judges (readRules s table) ≡ refused f → judges (studentRules s table) ≡ refused f
+  read-refused f e = ap judges (sym grouped) ∙ before-refused (readRules s table) (repeatRule s ∷ []) tt tt f e
 
-      pub repeat-left : Kept turns → judges (studentRules s table) ≡ judges (repeatRule s ∷ [])
-      repeat-left right = results-left ∙ after-kept turns (repeatRule s ∷ []) tt right
+  pub repeat-left : Readable s table → judges (studentRules s table) ≡ judges (repeatRule s ∷ [])
+  repeat-left e = ap judges (sym grouped) ∙ after-kept (readRules s table) (repeatRule s ∷ []) tt (all-kept (readRules s table) tt tt e)
+
+  -- what can be read has few results
+  pub few-read : Readable s table → held s ≤ mostResults
+  few-read e =
+      let k = kept-parts (catalogueRules (s .catalogue)) (inputRules s table ++ turnRules s table) (all-kept (readRules s table) tt tt e) in
+      ltb-false mostResults (held s) (kept-parts (inputRules s table) (turnRules s table) (k .1) .0 .1 .1 .1 .0)

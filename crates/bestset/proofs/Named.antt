@@ -1,25 +1,26 @@
 -- Whatever meets the promise on a named student is exactly this answer.
 use mathlib.Core.Path.{_≡_, ap, _∙_}
-use Rattle.bestset.specs.Counting.{student}
+use Rattle.results.specs.Results.{student}
 use Rattle.bestset.specs.Promise.{Promise}
 use Rattle.bestset.specs.Computed.{answer}
 use Rattle.bestset.specs.declared.Answer.{Answer}
 use Rattle.bestset.specs.declared.Answer.the-variants.{Accepted, Refused}
 use Rattle.paper.specs.declared.refusal.Refusal.the-variants.{NoSet}
-use Rattle.bestset.proofs.ByHand.{seven, eight, nine, table, catalogue2, table2, english10, students, outside-five}
+use Rattle.bestset.specs.Examples.{seven, eight, nine, table, catalogue2, table2, english10}
+use Rattle.bestset.proofs.ByHand.{students, outside-five}
 use Rattle.bestset.proofs.Meeting.{only}
 
 -- five highest first and rules after would refuse student 7
 pub student-7 : (r : Answer) → Promise seven table r → r ≡ Accepted 36000 61
-student-7 r h = only seven table r h ∙ ap answer (students .0)
+student-7 r h = only seven table h ∙ ap answer (students .0)
 
 -- of two clashing subjects dropping the lower would refuse student 8
 pub student-8 : (r : Answer) → Promise eight table r → r ≡ Accepted 35500 47
-student-8 r h = only eight table r h ∙ ap answer (students .1)
+student-8 r h = only eight table h ∙ ap answer (students .1)
 
 pub student-9 : (r : Answer) → Promise nine table r → r ≡ Refused NoSet
-student-9 r h = only nine table r h ∙ ap answer (students .2)
+student-9 r h = only nine table h ∙ ap answer (students .2)
 
 -- English sought only in the five would refuse this student
 pub english-outside : (r : Answer) → Promise (student catalogue2 english10 2021) table2 r → r ≡ Accepted 25000 62
-english-outside r h = only (student catalogue2 english10 2021) table2 r h ∙ ap answer outside-five
+english-outside r h = only (student catalogue2 english10 2021) table2 h ∙ ap answer outside-five

@@ -1,30 +1,36 @@
 -- Which sets of results are admissible.
 use Prim.Native.Nat.{ℕ, _^_, _<_, _≤_}
 use mathlib.Core.Path.{_≡_}
-use mathlib.Core.Bool.{true}
+use mathlib.Core.Bool.{Bool, true}
 use lib.ListN.{length}
-use Rattle.subjects.specs.Catalogue.{isIdentified}
-use Rattle.bestset.specs.Sets.{In, positions, countOver}
-use Rattle.bestset.specs.Results.{kindOf, identityOf}
-use Rattle.bestset.specs.Counting.{Student, general, applied, ofStrand, kept}
+use Rattle.paper.specs.Limits.{mostResults, members, leastGeneral}
+use Rattle.catalogue.specs.Kinds.{english, mathematics, isIdentified}
+use Rattle.seek.specs.Sets.{In, positions, countOver}
+use Rattle.results.specs.Results.{Student, result}
+use Rattle.results.specs.Counting.{generalAt, appliedAt, strandAt, kept}
 
--- not both a General and an Applied of the strand
+-- strand, student, set: not both a General and an Applied of the strand
 abbrev pub NotBoth : ℕ → Student → ℕ → Type 0
-NotBoth n s set = (i j : ℕ) → In i set → In j set → general s i ≡ true → ofStrand n s i ≡ true → applied s j ≡ true → ofStrand n s j ≡ true → ⊥
+NotBoth strand s set =
+    (i j : ℕ) → In i set → In j set
+    → generalAt s i ≡ true → strandAt strand s i ≡ true → appliedAt s j ≡ true → strandAt strand s j ≡ true → ⊥
+
+-- result i is of kinds 1 or 3
+abbrev pub identified : Student → ℕ → Bool
+identified s i = isIdentified (result s i .entry .kind)
 
 -- no two of kinds 1 or 3 with one identity
 abbrev pub OneEach : Student → ℕ → Type 0
 OneEach s set =
     (i j : ℕ) → i < j → In i set → In j set
-    → isIdentified (kindOf (s .catalogue) (s .results) i) ≡ true → isIdentified (kindOf (s .catalogue) (s .results) j) ≡ true
-    → identityOf (s .catalogue) (s .results) i ≡ identityOf (s .catalogue) (s .results) j → ⊥
+    → identified s i ≡ true → identified s j ≡ true → result s i .entry .identity ≡ result s j .entry .identity → ⊥
 
 -- five kept results, at least four of them General; not both a General and an Applied of strand 1; not both of strand 2; no two of kinds 1 or 3 with one identity
 pub record Admissible (s : Student) (set : ℕ) : Type 0 where
-  pub bits : set < 2 ^ 16
-  pub five : length (positions set) ≡ 5
+  pub bits : set < 2 ^ mostResults
+  pub five : length (positions set) ≡ members
   pub each : (i : ℕ) → In i set → kept s i ≡ true
-  pub four : 4 ≤ countOver (general s) (positions set)
-  pub englishes : NotBoth 1 s set
-  pub mathematics : NotBoth 2 s set
+  pub four : leastGeneral ≤ countOver (generalAt s) (positions set)
+  pub englishes : NotBoth english s set
+  pub maths : NotBoth mathematics s set
   pub identities : OneEach s set

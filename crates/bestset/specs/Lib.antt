@@ -1,13 +1,7 @@
-pub mod Sets
-pub mod Results
-pub mod Reading
-pub mod Counting
 pub mod Admissible
 pub mod Rules
 pub mod Promise
 pub mod Computed
-pub mod Sorts
-pub mod Masked
-pub mod Trying
-pub mod Inner
-pub mod Screening
+pub mod InnerMarks
+pub mod InnerJudging
+pub mod Examples

@@ -6,9 +6,11 @@ use mathlib.Core.Bool.{not}
 use mathlib.Core.List.{List, [], _∷_, _++_}
 use Rattle.paper.specs.Rulings.{Outcome, accepted, refused, _⇒_, _at_, judged}
 use Rattle.paper.specs.Refusals.{fault}
-use Rattle.bestset.specs.Sets.{positions, total, Earlier}
-use Rattle.bestset.specs.Reading.{score}
-use Rattle.bestset.specs.Counting.{Student, english}
+use Rattle.paper.specs.Promises.{Saying}
+use Rattle.seek.specs.Sets.{positions, comesTo, Earlier}
+use Rattle.results.specs.Results.{Student}
+use Rattle.results.specs.Scoring.{scoreAt}
+use Rattle.results.specs.Counting.{showsEnglish}
 use Rattle.bestset.specs.Admissible.{Admissible}
 use Rattle.bestset.specs.Rules.{studentRules}
 use Rattle.bestset.specs.declared.Answer.{Answer}
@@ -29,11 +31,11 @@ WellFormed s table = judged (studentRules s table) (tt {0}) ≡ accepted tt
 
 -- before 7 the rules; then 7: no English
 abbrev pub ruling : Student → List ℕ → Outcome (Unit {0})
-ruling s table = judged (studentRules s table ++ (not (english s) ⇒ 7 at 0 ∷ [])) tt
+ruling s table = judged (studentRules s table ++ (not (showsEnglish s) ⇒ 7 at 0 ∷ [])) tt
 
--- what a set of results comes to: the sum of its scores, in hundredths
-abbrev pub comesTo : Student → List ℕ → ℕ → ℕ
-comesTo s table set = total (score (s .catalogue) table (s .results)) set
+-- student, table, set: what a set of results comes to, the sum of its scores in hundredths
+abbrev pub totalOf : Student → List ℕ → ℕ → ℕ
+totalOf s table set = comesTo (scoreAt s table) set
 
 -- the aggregate of a sum in hundredths is the sum
 abbrev pub aggregateOf : ℕ → ℕ
@@ -42,18 +44,22 @@ aggregateOf sum = sum
 -- the chosen set is admissible, and gives the aggregate; no admissible set comes to more, and none that comes to as much is before it
 pub record Chosen (s : Student) (table : List ℕ) (v : Values) : Type 0 where
   pub admissible : Admissible s (v .set)
-  pub aggregate : v .aggregate ≡ aggregateOf (comesTo s table (v .set))
-  pub most : (set : ℕ) → Admissible s set → comesTo s table set ≤ comesTo s table (v .set)
-  pub first : (set : ℕ) → Admissible s set → comesTo s table set ≡ comesTo s table (v .set) → (set ≡ v .set) ⊎ Earlier (positions (v .set)) (positions set)
+  pub aggregate : v .aggregate ≡ aggregateOf (totalOf s table (v .set))
+  pub most : (set : ℕ) → Admissible s set → totalOf s table set ≤ totalOf s table (v .set)
+  pub first : (set : ℕ) → Admissible s set → totalOf s table set ≡ totalOf s table (v .set) → (set ≡ v .set) ⊎ Earlier (positions (v .set)) (positions set)
 
 -- with English shown: the chosen set; or 8, exactly where no set is admissible
 abbrev pub Answered : Student → List ℕ → Outcome Values → Type 0
 Answered s table (accepted v) = Chosen s table v
 Answered s table (refused f) = (f ≡ 8 at 0) × ((set : ℕ) → Admissible s set → ⊥)
 
-abbrev pub Owed : Student → List ℕ → Outcome Values → Outcome (Unit {0}) → Type 0
-Owed s table o (refused f) = o ≡ refused f
-Owed s table o (accepted u) = Answered s table o
+-- student, table, ruling up to 7, what is said: it is the refusal, or as above
+abbrev pub RuledBy : Student → List ℕ → Outcome (Unit {0}) → Outcome Values → Type 0
+RuledBy s table (refused f) o = o ≡ refused f
+RuledBy s table (accepted u) o = Answered s table o
+
+abbrev pub Ruled : Student → List ℕ → Outcome Values → Type 0
+Ruled s table o = RuledBy s table (ruling s table) o
 
 abbrev pub Promise : Student → List ℕ → Answer → Type 0
-Promise s table r = Owed s table (said r) (ruling s table)
+Promise s table r = Saying said (Ruled s table) r

@@ -1,15 +1,20 @@
 // One student: the best set of five results, or why there is none.
-ghost use Rattle.bestset.specs.Counting.{student};
+ghost use Rattle.results.specs.Results.{student};
 ghost use Rattle.bestset.specs.Promise.{said, WellFormed, Answered, Promise};
-use crate::search::Best;
-use crate::wellformed::Verdict;
+ghost use Rattle.bestset.specs.InnerMarks.{AllRead};
+ghost use Rattle.bestset.specs.InnerJudging.{Readable};
+use crate::marks::Read;
+use paper::limits::RESULT_BYTES;
 use paper::refusal::Refusal;
+use paper::screening::Verdict;
+use seek::packing;
+use seek::search;
+use seek::search::Lead;
+use seek::search::Test;
 
-mod counting;
-mod masks;
-mod reading;
-mod search;
-mod wellformed;
+mod marks;
+mod readable;
+mod repeats;
 
 // The aggregate in hundredths and the set, bit i for result i; or what is wrong.
 pub enum Answer {
@@ -17,35 +22,57 @@ pub enum Answer {
     Refused(Refusal),
 }
 
-// The best set of a well-formed student.
-fn choose(catalogue: &[u8], table: &[u8], results: &[u8], year: u64) -> Answer
-    requires { ⌜ WellFormed (student (now catalogue) (now results) year) (now table) ⌝ }
+// The best set of a well-formed student, from what is read of the results.
+fn choose(catalogue: &[u8], table: &[u8], results: &[u8], year: u64, read: Read) -> Answer
+    requires { ⌜ WellFormed (student (now catalogue) (now results) year) (now table) × AllRead (student (now catalogue) (now results) year) (now table) read ⌝ }
     ensures { λ r. ⌜ Answered (student (now (catalogue .entry)) (now (results .entry)) year) (now (table .entry)) (said r) ⌝ }
 {
-    let masks = masks::masks_of(catalogue, results, year);
-    let numbers = reading::numbers_of(catalogue, table, results);
-    let scores = numbers.scores;
-    let identities = numbers.identities;
-    let best = search::search(masks, &scores, &identities, results.len() / 6);
-    match best {
-        Best::Nothing => Answer::Refused(Refusal::NoSet),
-        Best::Chosen { total, set } => Answer::Accepted {
+    let masks = read.masks;
+    let scores = read.scores;
+    let identities = read.identities;
+    let test = Test {
+        kept: repeats::kept_of(results, masks.usable),
+        general: masks.general,
+        general_english: masks.general_english,
+        applied_english: masks.applied_english,
+        general_maths: masks.general_maths,
+        applied_maths: masks.applied_maths,
+        identities: packing::pack(&identities),
+    };
+    let lead = search::search(test, &scores, results.len() / RESULT_BYTES);
+    match lead {
+        Lead::Nothing => Answer::Refused(Refusal::NoSet),
+        Lead::Leading { total, set } => Answer::Accepted {
             aggregate: total,
             set,
         },
     }
 }
 
+// The best set of a student whose results can be read: 6, 7, 8 are left.
+fn weigh(catalogue: &[u8], table: &[u8], results: &[u8], year: u64) -> Answer
+    requires { ⌜ Readable (student (now catalogue) (now results) year) (now table) ⌝ }
+    ensures { λ r. ⌜ Promise (student (now (catalogue .entry)) (now (results .entry)) year) (now (table .entry)) r ⌝ }
+{
+    let read = marks::read_all(catalogue, table, results, year);
+    let masks = read.masks;
+    let again = repeats::first_repeated(results, masks.usable);
+    if again < results.len() / RESULT_BYTES {
+        return Answer::Refused(Refusal::Again(again));
+    }
+    if masks.passes == 0 {
+        return Answer::Refused(Refusal::NoEnglish);
+    }
+    choose(catalogue, table, results, year, read)
+}
+
 // The best set of five results, for the assessment year.
 pub fn best_set(catalogue: &[u8], table: &[u8], results: &[u8], year: u64) -> Answer
     ensures { λ r. ⌜ Promise (student (now (catalogue .entry)) (now (results .entry)) year) (now (table .entry)) r ⌝ }
 {
-    let verdict = wellformed::judge(catalogue, table, results, year);
+    let verdict = readable::judge(catalogue, table, results, year);
     if let Verdict::Refused(x) = verdict {
         return Answer::Refused(x);
     }
-    if !counting::english(catalogue, results, year) {
-        return Answer::Refused(Refusal::NoEnglish);
-    }
-    choose(catalogue, table, results, year)
+    weigh(catalogue, table, results, year)
 }

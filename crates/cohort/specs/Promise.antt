@@ -1,13 +1,16 @@
 -- What the reader promises, for every file.
 use Prim.Native.Nat.{ℕ, _/_}
 use mathlib.Core.Path.{_≡_}
-use mathlib.Core.List.{List, _++_}
-use lib.ListN.{length, drop}
-use Rattle.paper.specs.Rulings.{Outcome, accepted, refused}
-use Rattle.paper.specs.Refusals.{fault, refusal}
-use Rattle.subjects.specs.Catalogue.{subjects}
+use mathlib.Core.List.{List}
+use lib.ListN.{length}
+use Rattle.paper.specs.Limits.{resultBytes}
+use Rattle.paper.specs.Parts.{laid}
+use Rattle.paper.specs.Rulings.{Outcome, accepted, refused, mapped, valuesOr}
+use Rattle.paper.specs.Refusals.{fault}
+use Rattle.paper.specs.Promises.{Promised, Is, answered, filled}
+use Rattle.catalogue.specs.Catalogue.{subjects}
 use Rattle.curve.specs.Population.{Y, rate}
-use Rattle.cohort.specs.Held.{Held, idsOf, countsOf, resultsOf}
+use Rattle.cohort.specs.Held.{Held, nothing, idsOf, countsOf, resultsOf}
 use Rattle.cohort.specs.Reading.{reading}
 use Rattle.cohort.specs.declared.Answer.{Answer}
 use Rattle.cohort.specs.declared.Answer.the-variants.{Accepted, Refused}
@@ -32,7 +35,7 @@ valuesOf held = record {
   year = held .year;
   subjects = subjects (held .catalogue);
   students = length (held .students);
-  results = length (resultsOf (held .students)) / 6;
+  results = length (resultsOf (held .students)) / resultBytes;
   population = Y (held .figures);
   rate = rate (held .figures);
 }
@@ -49,37 +52,35 @@ pub record Buffers : Type 0 where
 abbrev pub buffers : List ℕ → List ℕ → List ℕ → List ℕ → List ℕ → List ℕ → Buffers
 buffers a b c d e f = record { catalogue = a; table = b; figures = c; ids = d; counts = e; results = f }
 
--- a buffer that begins with xs, the rest as it was
-unfoldable pub begun : List ℕ → List ℕ → List ℕ
-begun xs old = xs ++ drop (length xs) old
-
--- what is held, laid into the buffers
+-- what is held, laid into the buffers from their start on, the rest as it was
 abbrev pub written : Held → Buffers → Buffers
 written held old = record {
-  catalogue = begun (held .catalogue) (old .catalogue);
-  table = begun (held .table) (old .table);
-  figures = begun (held .figures) (old .figures);
-  ids = begun (idsOf (held .students)) (old .ids);
-  counts = begun (countsOf (held .students)) (old .counts);
-  results = begun (resultsOf (held .students)) (old .results);
+  catalogue = laid (old .catalogue) 0 (held .catalogue);
+  table = laid (old .table) 0 (held .table);
+  figures = laid (old .figures) 0 (held .figures);
+  ids = laid (old .ids) 0 (idsOf (held .students));
+  counts = laid (old .counts) 0 (countsOf (held .students));
+  results = laid (old .results) 0 (resultsOf (held .students));
 }
 
--- accepted: the values, and what is held in the buffers; refused: the number and the place, and every buffer as it was
-abbrev pub Owed : Buffers → Answer → Buffers → Outcome Held → Type 0
-Owed old r new (accepted held) = (said r ≡ accepted (valuesOf held)) × (new ≡ written held old)
-Owed old r new (refused f) = (said r ≡ refused f) × (new ≡ old)
+-- the ruling: what is held has these values
+abbrev pub ruling : List ℕ → Outcome Values
+ruling file = mapped valuesOf (reading file)
 
+-- what a file that is accepted holds, in the buffers
+abbrev pub holding : List ℕ → Buffers → Buffers
+holding file old = written (valuesOr nothing (reading file)) old
+
+-- file, the buffers before, the answer, the buffers after: accepted, they hold what is held
 abbrev pub Promise : List ℕ → Buffers → Answer → Buffers → Type 0
-Promise file old r new = Owed old r new (reading file)
+Promise file old r new = Promised said (Is (ruling file)) (λ v after. after ≡ holding file old) old r new
 
--- the answer and the buffers, computed
-abbrev pub answered : Values → Answer
-answered v = Accepted (v .year) (v .subjects) (v .students) (v .results) (v .population) (v .rate)
+-- the answer and the buffers of an outcome, computed
+abbrev pub accept : Values → Answer
+accept v = Accepted (v .year) (v .subjects) (v .students) (v .results) (v .population) (v .rate)
 
-abbrev pub answer : Outcome Held → Answer
-answer (accepted held) = answered (valuesOf held)
-answer (refused f) = Refused (refusal f)
+abbrev pub answer : Outcome Values → Answer
+answer = answered accept Refused
 
-abbrev pub left : Buffers → Outcome Held → Buffers
-left old (accepted held) = written held old
-left old (refused f) = old
+abbrev pub left : List ℕ → Buffers → Outcome Values → Buffers
+left file old = filled (λ v. holding file old) old

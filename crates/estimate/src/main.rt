@@ -3,6 +3,8 @@ ghost use Rattle.estimate.specs.Input.{Within};
 use libc::STDERR_FILENO;
 use libc::STDIN_FILENO;
 use libc::STDOUT_FILENO;
+use paper::limits::MOST_BYTES;
+use report::TEXT_BYTES;
 
 // How many bytes were read, or that a read failed.
 enum Input {
@@ -31,7 +33,7 @@ fn read_input(file: &mut [u8]) -> Input
 
 // Writes the listing of a file.
 fn list(file: &[u8]) {
-    let mut text = [0u8; 65536];
+    let mut text = [0u8; TEXT_BYTES];
     let answer = report::report(file, &mut text);
     if let report::Answer::Accepted { length } = answer {
         if !io::write_all(STDOUT_FILENO, &text[..length]) {
@@ -42,7 +44,7 @@ fn list(file: &[u8]) {
 
 // One byte more than is accepted is read, so that a file that is too long is seen.
 fn main() {
-    let mut file = [0u8; 65537];
+    let mut file = [0u8; MOST_BYTES + 1];
     let input = read_input(&mut file);
     match input {
         Input::Read(n) => list(&file[..n]),

@@ -1,5 +1,4 @@
 -- The texts of the paper's example and others, computed.
-use Prim.Native.Nat.{ℕ}
 use mathlib.Core.Path.{_≡_, refl}
 use mathlib.Core.List.{[], _∷_}
 use Rattle.listing.specs.Text.{digitsIn, digits, decimals2, decimals3, atar, low}

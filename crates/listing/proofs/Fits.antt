@@ -5,9 +5,11 @@ use native.Mathlib.Decide.{decLt}
 use mathlib.Core.Path.{_≡_}
 use lib.ListN.{length, length-append}
 use borrow.Author.Tests.{lt-ltb, le-ltb}
-use Rattle.listing.specs.Text.{digits, decimals2, decimals3, atar}
-use Rattle.listing.specs.Lines.{cohortLine, studentLine, refusedLine, fileLine}
-use Rattle.listing.specs.Inner.{Adds}
+use Rattle.paper.specs.Limits.{bandStep}
+use Rattle.paper.specs.Units.{hundredths, thousandths}
+use Rattle.listing.specs.Text.{digits, decimals2, decimals3, lowBand, atar}
+use Rattle.listing.specs.Lines.{cohortLine, studentLine, refusedLine, fileLine, lineBytes}
+use Rattle.listing.specs.Inner.{Adds, endingBytes}
 use Rattle.listing.specs.declared.writing.Line.{Line}
 use Rattle.listing.proofs.Digits.{few-digits}
 
@@ -16,32 +18,32 @@ module _ (n : ℕ) (h : n < 4294967296) where
   digits-32 = few-digits n 9 (omega arith)
 
   decimals-2 : length (decimals2 n) ≤ 11
-  decimals-2 = simp length-append (omega (arith, few-digits (n / 100) 7 (omega arith)))
+  decimals-2 = simp length-append (omega (arith, few-digits (n / hundredths) 7 (omega arith)))
 
   decimals-3 : length (decimals3 n) ≤ 11
-  decimals-3 = simp length-append (omega (arith, few-digits (n / 1000) 6 (omega arith)))
+  decimals-3 = simp length-append (omega (arith, few-digits (n / thousandths) 6 (omega arith)))
 
 atar-16 : (k : ℕ) → k < 65536 → length (atar k) ≤ 13
 unfolding atar
-atar-16 k h = go (decLt 600 k)
+atar-16 k h = go (decLt lowBand k)
   where
-    go : Dec (600 < k) → length (atar k) ≤ 13
-    go (yes l) = rw (lt-ltb 600 k l, atar) (simp length-append (omega (arith, few-digits (5 * k / 100) 3 (omega arith))))
-    go (no l) = rw (le-ltb 600 k (omega arith), atar) (omega arith)
+    go : Dec (lowBand < k) → length (atar k) ≤ 13
+    go (yes l) = rw (lt-ltb lowBand k l, atar) (simp length-append (omega (arith, few-digits (bandStep * k / hundredths) 3 (omega arith))))
+    go (no l) = rw (le-ltb lowBand k (omega arith), atar) (omega arith)
 
-pub cohort-fits : (students eligible remainder : ℕ) → students < 4294967296 → eligible < 4294967296 → remainder < 4294967296 → length (cohortLine students eligible remainder) ≤ 64
+pub cohort-fits : (students eligible remainder : ℕ) → students < 4294967296 → eligible < 4294967296 → remainder < 4294967296 → length (cohortLine students eligible remainder) ≤ lineBytes
 cohort-fits s e r a b c = simp length-append (omega (arith, digits-32 s a, digits-32 e b, digits-32 r c))
 
 pub student-fits : (id aggregate rank percentile band : ℕ) → id < 4294967296 → aggregate < 4294967296 → rank < 4294967296 → percentile < 4294967296 → band < 65536
-    → length (studentLine id aggregate rank percentile band) ≤ 64
+    → length (studentLine id aggregate rank percentile band) ≤ lineBytes
 student-fits i t r p k a b c d e = simp length-append (omega (arith, digits-32 i a, simp length-append at (decimals-2 t b), digits-32 r c, simp length-append at (decimals-3 p d), atar-16 k e))
 
-pub file-fits : (number place : ℕ) → number < 256 → place < 18446744073709551616 → length (fileLine number place) ≤ 33
+pub file-fits : (number place : ℕ) → number < 256 → place < 18446744073709551616 → length (fileLine number place) ≤ endingBytes
 file-fits n p a b = simp length-append (omega (arith, few-digits n 2 (omega arith), few-digits p 19 (omega arith)))
 
 -- the same number and place, and they fit
-pub told : {a b : Line} {n p number place : ℕ} → n ≡ number → p ≡ place → n < 256 → p < 18446744073709551616 → Adds a b (fileLine n p) → Adds a b (fileLine number place) × (length (fileLine number place) ≤ 33)
+pub told : {a b : Line} {n p number place : ℕ} → n ≡ number → p ≡ place → n < 256 → p < 18446744073709551616 → Adds a b (fileLine n p) → Adds a b (fileLine number place) × (length (fileLine number place) ≤ endingBytes)
 told {n = n} {p = p} e f h l d = rw (← e, ← f) (d, file-fits n p h l)
 
-pub refused-fits : (id number place : ℕ) → id < 4294967296 → length (fileLine number place) ≤ 33 → length (refusedLine id number place) ≤ 64
+pub refused-fits : (id number place : ℕ) → id < 4294967296 → length (fileLine number place) ≤ endingBytes → length (refusedLine id number place) ≤ lineBytes
 refused-fits i n p a b = simp length-append (omega (arith, digits-32 i a, simp length-append at b))

@@ -4,10 +4,10 @@ use native.Mathlib.Omega.{arith}
 use native.Mathlib.Numerals.{unary-clauses}
 use mathlib.Core.Path.{_≡_, refl, sym, ap, _∙_}
 use mathlib.Core.List.{List, [], _∷_, _++_, append-assoc}
-use lib.ListN.{length, set, take, drop, replicate, length-append, take-append-drop}
+use lib.ListN.{length, set, replicate, length-append, take-append-drop}
 use lib.Seq.{take-append-seam, drop-append-seam}
 use Rattle.listing.specs.Inner.{padded, lineOf, Adds}
-use Rattle.listing.specs.Lines.{Shows}
+use Rattle.listing.specs.Lines.{lineBytes, Shows}
 use Rattle.listing.specs.declared.writing.Line.{Line}
 
 -- a byte more where there is room, and none where there is not
@@ -37,16 +37,16 @@ text-padded (suc n) (x ∷ text) h = simp unary-clauses (ap (λ (l : List ℕ). 
 abbrev made : List ℕ → ℕ → Line
 made bytes long = record { bytes = bytes; length = long }
 
-pub with-byte : (text : List ℕ) (byte : ℕ) → min 64 (length text) < 64 → made (set (padded 64 text) (min 64 (length text)) byte) (min 64 (length text) + 1) ≡ lineOf (text ++ (byte ∷ []))
+pub with-byte : (text : List ℕ) (byte : ℕ) → min lineBytes (length text) < lineBytes → made (set (padded lineBytes text) (min lineBytes (length text)) byte) (min lineBytes (length text) + 1) ≡ lineOf (text ++ (byte ∷ []))
 with-byte text byte h =
-    let s : min 64 (length text) ≡ length text = omega arith in
-    let l : min 64 (length (text ++ (byte ∷ []))) ≡ length text + 1 = simp length-append (omega arith) in
-    rw (s, more-padded 64 text byte (omega arith), l) refl
+    let s : min lineBytes (length text) ≡ length text = omega arith in
+    let l : min lineBytes (length (text ++ (byte ∷ []))) ≡ length text + 1 = simp length-append (omega arith) in
+    rw (s, more-padded lineBytes text byte (omega arith), l) refl
 
-pub full-line : (text more : List ℕ) → 64 ≤ min 64 (length text) → lineOf text ≡ lineOf (text ++ more)
+pub full-line : (text more : List ℕ) → lineBytes ≤ min lineBytes (length text) → lineOf text ≡ lineOf (text ++ more)
 full-line text more h =
-    let l : min 64 (length (text ++ more)) ≡ min 64 (length text) = simp length-append (omega arith) in
-    rw (full-padded 64 text more (omega arith), l) refl
+    let l : min lineBytes (length (text ++ more)) ≡ min lineBytes (length text) = simp length-append (omega arith) in
+    rw (full-padded lineBytes text more (omega arith), l) refl
 
 infixr 5 _then_
 -- one text after another
@@ -54,21 +54,21 @@ pub _then_ : {a b c : Line} {first second : List ℕ} → Adds a b first → Add
 (_then_) {first = first} {second = second} f g = record { added = λ text e. rw (← append-assoc text first second) (g .added (text ++ first) (f .added text e)) }
 
 -- the line of a text that fits shows it
-pub shows : (text : List ℕ) → length text ≤ 64 → Shows (lineOf text) text
+pub shows : (text : List ℕ) → length text ≤ lineBytes → Shows (lineOf text) text
 shows text h =
-    let s : min 64 (length text) ≡ length text = omega arith in
+    let s : min lineBytes (length text) ≡ length text = omega arith in
     record {
       fits = h;
-      same = rw (s, text-padded 64 text h) (take-append-seam text (replicate (64 - length text) 0));
+      same = rw (s, text-padded lineBytes text h) (take-append-seam text (replicate (lineBytes - length text) 0));
       long = s;
-      rest = rw (s, text-padded 64 text h) (drop-append-seam text (replicate (64 - length text) 0));
+      rest = rw (s, text-padded lineBytes text h) (drop-append-seam text (replicate (lineBytes - length text) 0));
     }
 
-pub written : {a b : Line} {text : List ℕ} → length text ≤ 64 → a ≡ lineOf [] → Adds a b text → Shows b text
+pub written : {a b : Line} {text : List ℕ} → length text ≤ lineBytes → a ≡ lineOf [] → Adds a b text → Shows b text
 written {text = text} h e f = rw (f .added [] e) (shows text h)
 
 -- two lines that show one text are equal
-bytes-of : {line : Line} {text : List ℕ} → Shows line text → line .bytes ≡ text ++ replicate (64 - length text) 0
+bytes-of : {line : Line} {text : List ℕ} → Shows line text → line .bytes ≡ text ++ replicate (lineBytes - length text) 0
 bytes-of {line} p = sym (take-append-drop (line .length) (line .bytes)) ∙ rw (p .same, p .rest) refl
 
 pub determined : {a b : Line} {text : List ℕ} → Shows a text → Shows b text → a ≡ b

@@ -2,17 +2,17 @@
 use Prim.Native.Nat.{ℕ, _+_, _-_, _*_, _/_, _<_, _≤_}
 use native.Mathlib.Omega.{arith}
 use native.Mathlib.Decide.{decLt}
-use mathlib.Core.Path.{_≡_, refl, sym, ap, _∙_}
+use mathlib.Core.Path.{_≡_, refl, _∙_}
 use mathlib.Core.List.{List, [], _∷_, _++_}
 use lib.ListN.{length, getD, length-append, List·getD-append}
 use lib.Seq.{getD-append-seam}
-use Rattle.listing.specs.Text.{digit, digits}
+use Rattle.listing.specs.Text.{zeroDigit, digit, digits}
 use Rattle.listing.specs.Meaning.{readOn, Digit, Decimal}
 use Rattle.listing.proofs.Digits.{by-tenths, one-digit, more-digits}
 
-read-last : (n : ℕ) (text : List ℕ) (byte : ℕ) → readOn n (text ++ (byte ∷ [])) ≡ readOn n text * 10 + (byte - 48)
+read-last : (n : ℕ) (text : List ℕ) (byte : ℕ) → readOn n (text ++ (byte ∷ [])) ≡ readOn n text * 10 + (byte - zeroDigit)
 read-last n [] byte = refl
-read-last n (x ∷ text) byte = read-last (n * 10 + (x - 48)) text byte
+read-last n (x ∷ text) byte = read-last (n * 10 + (x - zeroDigit)) text byte
 
 each-more : (text : List ℕ) (byte : ℕ) → ((i : ℕ) → i < length text → Digit (getD text i 0)) → Digit byte → (i : ℕ) → i < length (text ++ (byte ∷ [])) → Digit (getD (text ++ (byte ∷ [])) i 0)
 each-more text byte f h i l = go (decLt i (length text))

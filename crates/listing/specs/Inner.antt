@@ -6,7 +6,7 @@ use lib.ListN.{length}
 use Rattle.paper.specs.Rulings.{numberOf, placeOf}
 use Rattle.paper.specs.Refusals.{fault}
 use Rattle.paper.specs.declared.refusal.Refusal.{Refusal}
-use Rattle.listing.specs.Lines.{fileLine}
+use Rattle.listing.specs.Lines.{fileLine, lineBytes}
 use Rattle.listing.specs.declared.writing.Line.{Line}
 
 -- the first n bytes of a text, with zeros after it where it is shorter
@@ -17,7 +17,7 @@ padded (suc n) (byte ∷ text) = byte ∷ padded n text
 
 -- the line of a text, of which 64 bytes are kept
 abbrev pub lineOf : List ℕ → Line
-lineOf text = record { bytes = padded 64 text; length = min 64 (length text) }
+lineOf text = record { bytes = padded lineBytes text; length = min lineBytes (length text) }
 
 -- the second line is the first with more text at its end
 pub record Adds (before after : Line) (more : List ℕ) : Type 0 where
@@ -26,3 +26,7 @@ pub record Adds (before after : Line) (more : List ℕ) : Type 0 where
 -- how a line of a refusal ends
 abbrev pub ending : Refusal → List ℕ
 ending refusal = fileLine (numberOf (fault refusal)) (placeOf (fault refusal))
+
+-- its bytes at most: refused, a number of up to 3 digits, a place of up to 20, two spaces and a line feed
+abbrev pub endingBytes : ℕ
+endingBytes = 33

@@ -18,7 +18,7 @@ pub fn cohort_line(students: u32, eligible: u32, remainder: u32) -> Line
         .number(eligible as u64)
         .text(b" remainder ")
         .number(remainder as u64)
-        .text(b"\n")
+        .byte(b'\n')
 }
 
 // A student with an aggregate: in hundredths, the percentile in thousandths.
@@ -27,22 +27,22 @@ pub fn student_line(id: u32, aggregate: u32, rank: u32, percentile: u32, band: u
 {
     Line::empty()
         .number(id as u64)
-        .text(b" ")
+        .byte(b' ')
         .hundredths(aggregate as u64)
-        .text(b" ")
+        .byte(b' ')
         .number(rank as u64)
-        .text(b" ")
+        .byte(b' ')
         .thousandths(percentile as u64)
-        .text(b" ")
+        .byte(b' ')
         .atar(band)
-        .text(b"\n")
+        .byte(b'\n')
 }
 
 // A refused student.
 pub fn refused_line(id: u32, refusal: Refusal) -> Line
     ensures { λ r. ⌜ Shows r (refusedLine id (numberOf (fault refusal)) (placeOf (fault refusal))) ⌝ }
 {
-    Line::empty().number(id as u64).text(b" ").refusal(refusal)
+    Line::empty().number(id as u64).byte(b' ').refusal(refusal)
 }
 
 // A refused file.

@@ -4,13 +4,19 @@ ghost use mathlib.Core.List.{[], _∷_};
 ghost use Prim.Native.Nat.{_≤_};
 ghost use lib.ListN.{length};
 ghost use Rattle.listing.specs.Text.{digit, digits, decimals2, decimals3, atar};
-ghost use Rattle.listing.specs.Inner.{lineOf, Adds, ending};
+ghost use Rattle.listing.specs.Inner.{lineOf, Adds, ending, endingBytes};
+use paper::limits::BAND_STEP;
 use paper::refusal;
 use paper::refusal::Refusal;
+use paper::units::HUNDREDTHS;
+use paper::units::THOUSANDTHS;
+
+// The bytes that a line has room for.
+pub const LINE_BYTES: usize = 64;
 
 // The bytes of the text, then zeros.
 pub struct Line {
-    pub bytes: [u8; 64],
+    pub bytes: [u8; LINE_BYTES],
     pub length: usize,
 }
 
@@ -22,16 +28,16 @@ impl Line {
         ensures { λ r. ⌜ r ≡ lineOf [] ⌝ }
     {
         Line {
-            bytes: [0; 64],
+            bytes: [0; LINE_BYTES],
             length: 0,
         }
     }
 
-    fn byte(mut self, byte: u8) -> Line
+    pub(crate) fn byte(mut self, byte: u8) -> Line
         ensures { λ r. ⌜ Adds self r (byte ∷ []) ⌝ }
     {
         let at = self.length;
-        if at < 64 {
+        if at < LINE_BYTES {
             self.bytes[at] = byte;
             self.length = at + 1;
         }
@@ -70,15 +76,18 @@ impl Line {
     pub(crate) fn hundredths(self, n: u64) -> Line
         ensures { λ r. ⌜ Adds self r (decimals2 n) ⌝ }
     {
-        self.number(n / 100).text(b".").digit(n / 10).digit(n)
+        self.number(n / HUNDREDTHS)
+            .byte(b'.')
+            .digit(n / 10)
+            .digit(n)
     }
 
     // Three decimals of a number of thousandths.
     pub(crate) fn thousandths(self, n: u64) -> Line
         ensures { λ r. ⌜ Adds self r (decimals3 n) ⌝ }
     {
-        self.number(n / 1000)
-            .text(b".")
+        self.number(n / THOUSANDTHS)
+            .byte(b'.')
             .digit(n / 100)
             .digit(n / 10)
             .digit(n)
@@ -91,19 +100,19 @@ impl Line {
         if band <= LOW_BAND {
             return self.text(b"30.00 or less");
         }
-        self.hundredths(5 * band as u64)
+        self.hundredths(BAND_STEP * band as u64)
     }
 
     // How a line of a refusal ends.
     pub(crate) fn refusal(self, refusal: Refusal) -> Line
-        ensures { λ r. ⌜ Adds self r (ending refusal) × (length (ending refusal) ≤ 33) ⌝ }
+        ensures { λ r. ⌜ Adds self r (ending refusal) × (length (ending refusal) ≤ endingBytes) ⌝ }
     {
         let number = refusal::number(refusal) as u64;
         let place = refusal::place(refusal) as u64;
         self.text(b"refused ")
             .number(number)
-            .text(b" ")
+            .byte(b' ')
             .number(place)
-            .text(b"\n")
+            .byte(b'\n')
     }
 }

@@ -2,7 +2,8 @@
 ghost use mathlib.Core.Path.{_≡_};
 ghost use Prim.Native.Nat.{_≤_};
 ghost use lib.ListN.{length};
-ghost use Rattle.ranks.specs.Promise.{Ranked, Promise};
+ghost use Rattle.paper.specs.Limits.{mostValues};
+ghost use Rattle.ranks.specs.Promise.{lent, Ranked, Promise};
 use paper::limits::MOST_VALUES;
 use paper::refusal::Refusal;
 
@@ -18,8 +19,8 @@ pub enum Answer {
 
 // Fills both buffers, sorting the values in them first.
 fn fill(values: &[u32], ranks: &mut [u32], percentiles: &mut [u32])
-    requires { ⌜ (length (now values) ≤ 100000) × (length (now ranks) ≡ length (now values)) × (length (now percentiles) ≡ length (now values)) ⌝ }
-    ensures { λ _. ⌜ Ranked (now (values .entry)) (now (ranks .exit)) (now (percentiles .exit)) ⌝ }
+    requires { ⌜ (length (now values) ≤ mostValues) × (length (now ranks) ≡ length (now values)) × (length (now percentiles) ≡ length (now values)) ⌝ }
+    ensures { λ _. ⌜ Ranked (now (values .entry)) (lent (now (ranks .exit)) (now (percentiles .exit))) ⌝ }
 {
     sort::copy(values, ranks);
     sort::copy(values, percentiles);
@@ -30,7 +31,7 @@ fn fill(values: &[u32], ranks: &mut [u32], percentiles: &mut [u32])
 
 // Fills a rank and a percentile for each value. A refusal writes nothing.
 pub fn ranks(values: &[u32], ranks: &mut [u32], percentiles: &mut [u32]) -> Answer
-    ensures { λ r. ⌜ Promise (now (values .entry)) (now (ranks .entry)) (now (percentiles .entry)) r (now (ranks .exit)) (now (percentiles .exit)) ⌝ }
+    ensures { λ r. ⌜ Promise (now (values .entry)) (lent (now (ranks .entry)) (now (percentiles .entry))) r (lent (now (ranks .exit)) (now (percentiles .exit))) ⌝ }
 {
     if MOST_VALUES < values.len() {
         return Answer::Refused(Refusal::TooMany(MOST_VALUES));

@@ -6,8 +6,8 @@ use Rattle.paper.specs.Rounding.{nearest}
 use Rattle.paper.specs.Lists.{sum, count, first, listed}
 use Rattle.paper.specs.Rulings.{inTurn}
 use Rattle.paper.specs.Bytes.{word, long}
-use Rattle.subjects.specs.Catalogue.{outside}
-use Rattle.bestset.specs.Counting.{usable, english}
+use Rattle.catalogue.specs.Catalogue.{outside}
+use Rattle.results.specs.Counting.{usable, usableAt, showsEnglish}
 use Rattle.curve.specs.Population.{S, E}
 use Rattle.bands.specs.Placing.{remainder}
 use Rattle.cohort.specs.Judging.{holdsId}
@@ -39,5 +39,5 @@ nobody = refl
 
 -- student 9 has no result: 9 refused 7 0
 pub no-result : textOf (head ++ (5 ∷ 0 ∷ 4 ∷ 0 ∷ 0 ∷ 0 ∷ 9 ∷ [])) ≡ cohort 49 (57 ∷ 32 ∷ 114 ∷ 101 ∷ 102 ∷ 117 ∷ 115 ∷ 101 ∷ 100 ∷ 32 ∷ 55 ∷ 32 ∷ 48 ∷ 10 ∷ [])
-unfolding textOf reading body fields digits digitsIn word long sum first nearest S E holdsId aggregatesOf linesOf outcome remainder count inTurn listed outside english usable
+unfolding textOf reading body fields digits digitsIn word long sum first nearest S E holdsId aggregatesOf linesOf outcome remainder count inTurn listed outside showsEnglish usable usableAt
 no-result = refl

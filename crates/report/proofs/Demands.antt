@@ -5,37 +5,41 @@ use mathlib.Core.Path.{_≡_, refl, sym, ap, subst, _∙_}
 use mathlib.Core.List.{List, [], _∷_, _++_, append-assoc}
 use lib.ListN.{length, getD, length-append}
 use lib.Seq.{getD-append-seam}
+use Rattle.paper.specs.Limits.{bandCount}
 use Rattle.paper.specs.Rulings.{Outcome, accepted, refused, numberOf, placeOf}
-use Rattle.bestset.specs.Counting.{student}
-use Rattle.bestset.specs.Promise.{Values, ruling, Owed}
-use Rattle.bestset.proofs.Meeting.{computed-owed}
+use Rattle.results.specs.Results.{student}
+use Rattle.bestset.specs.Promise.{Values, Ruled}
 use Rattle.curve.specs.Population.{Y}
 use Rattle.curve.specs.Promise.{values, ruling as curveRuling}
 use Rattle.ranks.specs.Ranking.{rank, percentile, ranksOf, percentilesOf}
-use Rattle.ranks.specs.Promise.{ruling as ranksRuling}
+use Rattle.ranks.specs.Promise.{lent, ruling as ranksRuling}
 use Rattle.ranks.proofs.Promised.{computed as ranks-computed}
 use Rattle.bands.specs.Placing.{remainder}
 use Rattle.bands.specs.Search.{bandsOf}
 use Rattle.bands.specs.Promise.{ruling as bandsRuling}
 use Rattle.bands.proofs.Placed.{best-exists}
-use Rattle.listing.specs.Lines.{cohortLine, studentLine, refusedLine}
-use Rattle.cohort.specs.Held.{Student, Held}
+use Rattle.listing.specs.Text.{digits}
+use Rattle.listing.specs.Lines.{cohort, eligible, remainder as left, cohortLine, studentLine, refusedLine}
+use Rattle.cohort.specs.Held.{Enrolled, Held}
 use Rattle.cohort.specs.Reading.{reading}
 use Rattle.cohort.proofs.Holding.{sound}
 use Rattle.report.specs.Report.{outcome, outcomeOf, withAggregate, aggregatesOf, eligibleOf, participation, Columns, columnsOf, eligibleLine, lineOf, afterOne, linesOf, textOfOutcome, textOf}
 use Rattle.report.specs.Inner.{Even, Populated, Placeable, columns}
 use Rattle.report.specs.Meaning.{In, Estimated}
+use Rattle.report.proofs.Whole.{whole-line, whole-join, all-whole}
 use Rattle.report.proofs.Accepting.{curve-accepts, ranks-accept, bands-accept}
-use Rattle.report.proofs.Bounded.{chosen, aggregates-most}
+use Rattle.report.proofs.Best.{chosen}
+use Rattle.bestset.proofs.Meeting.{computed-ruled}
+use Rattle.report.proofs.Bounded.{aggregates-most}
 
--- each student's outcome is what the best set owes: the greatest over all admissible sets, or the refusal that the rules fix
-pub owed : (held : Held) (s : Student)
-    → let one = student (held .catalogue) (s .results) (held .year) in Owed one (held .table) (outcomeOf held s) (ruling one (held .table))
+-- each student's outcome is one that the best set permits: the greatest over all admissible sets, or the refusal that the rules fix
+pub owed : (held : Held) (s : Enrolled)
+    → let one = student (held .catalogue) (s .results) (held .year) in Ruled one (held .table) (outcomeOf held s)
 unfolding outcome
-owed held s = computed-owed (student (held .catalogue) (s .results) (held .year)) (held .table)
+owed held s = computed-ruled (student (held .catalogue) (s .results) (held .year)) (held .table)
 
 -- the aggregates of some students and of those after them
-aggregates-join : (out : Student → Outcome Values) (before rest : List Student) → aggregatesOf out (before ++ rest) ≡ aggregatesOf out before ++ aggregatesOf out rest
+aggregates-join : (out : Enrolled → Outcome Values) (before rest : List Enrolled) → aggregatesOf out (before ++ rest) ≡ aggregatesOf out before ++ aggregatesOf out rest
 unfolding aggregatesOf
 aggregates-join out [] rest = refl
 aggregates-join out (s ∷ before) rest = go (out s) (aggregates-join out before rest)
@@ -46,7 +50,7 @@ aggregates-join out (s ∷ before) rest = go (out s) (aggregates-join out before
     go (refused f) e = e
 
 -- an eligible student's place among the eligible is the number of those before, and the aggregate there its own
-own-aggregate : (out : Student → Outcome Values) (before : List Student) (s : Student) (rest : List Student) (v : Values) → out s ≡ accepted v
+own-aggregate : (out : Enrolled → Outcome Values) (before : List Enrolled) (s : Enrolled) (rest : List Enrolled) (v : Values) → out s ≡ accepted v
     → getD (aggregatesOf out (before ++ (s ∷ rest))) (length (aggregatesOf out before)) 0 ≡ v .aggregate
 unfolding aggregatesOf
 own-aggregate out before s rest v e =
@@ -54,7 +58,7 @@ own-aggregate out before s rest v e =
     ∙ ap (λ (o : Outcome Values). getD (aggregatesOf out before ++ withAggregate o (aggregatesOf out rest)) (length (aggregatesOf out before)) 0) e
     ∙ getD-append-seam (aggregatesOf out before) (v .aggregate) (aggregatesOf out rest) 0
 
-own-within : (out : Student → Outcome Values) (before : List Student) (s : Student) (rest : List Student) (v : Values) → out s ≡ accepted v
+own-within : (out : Enrolled → Outcome Values) (before : List Enrolled) (s : Enrolled) (rest : List Enrolled) (v : Values) → out s ≡ accepted v
     → length (aggregatesOf out before) < length (aggregatesOf out (before ++ (s ∷ rest)))
 unfolding aggregatesOf
 own-within out before s rest v e =
@@ -64,7 +68,7 @@ own-within out before s rest v e =
     omega arith
 
 -- and its line is written with that place
-lines-join : (out : Student → Outcome Values) (c : Columns) (j : ℕ) (before rest : List Student)
+lines-join : (out : Enrolled → Outcome Values) (c : Columns) (j : ℕ) (before rest : List Enrolled)
     → linesOf out c j (before ++ rest) ≡ linesOf out c j before ++ linesOf out c (j + length (aggregatesOf out before)) rest
 unfolding linesOf aggregatesOf
 lines-join out c j [] rest = let e : j ≡ j + 0 = omega arith in ap (λ (n : ℕ). linesOf out c n rest) e
@@ -82,14 +86,14 @@ lines-join out c j (s ∷ before) rest = go (out s) (λ n. lines-join out c n be
 
 -- a file that is accepted, and one of its students with those before
 module _ (file : List ℕ) (held : Held) (reads : reading file ≡ accepted held) where
-  abbrev out : Student → Outcome Values
+  abbrev out : Enrolled → Outcome Values
   out = outcomeOf held
 
   abbrev cols : Columns
   cols = columnsOf (held .figures) (eligibleOf held)
 
   -- the line of each student stands in the text
-  printed : (before : List Student) (s : Student) (rest : List Student) → held .students ≡ before ++ (s ∷ rest)
+  printed : (before : List Enrolled) (s : Enrolled) (rest : List Enrolled) → held .students ≡ before ++ (s ∷ rest)
       → In (lineOf cols (length (aggregatesOf out before)) (s .id) (out s)) (textOf file)
   unfolding textOf linesOf
   printed before s rest e =
@@ -98,10 +102,14 @@ module _ (file : List ℕ) (held : Held) (reads : reading file ≡ accepted held
       let tail = linesOf out cols (afterOne j (out s)) rest in
       record {
         before = front ++ linesOf out cols 0 before;
+        whole =
+            whole-join front (linesOf out cols 0 before)
+            (whole-line (cohort ∷ digits (length (held .students)) ∷ eligible ∷ digits (length (eligibleOf held)) ∷ left ∷ digits (remainder (eligibleOf held) (participation (held .figures)) (Y (held .figures))) ∷ []))
+            (all-whole out cols 0 before);
         after = tail;
         text-is =
             ap textOfOutcome reads
-            ∙ ap (λ (ss : List Student). front ++ linesOf out cols 0 ss) e
+            ∙ ap (λ (ss : List Enrolled). front ++ linesOf out cols 0 ss) e
             ∙ ap (λ (l : List ℕ). front ++ l) (lines-join out cols 0 before (s ∷ rest) ∙ ap (λ (n : ℕ). linesOf out cols 0 before ++ linesOf out cols n (s ∷ rest)) zero-more)
             ∙ sym (append-assoc front (linesOf out cols 0 before) (lineOf cols j (s .id) (out s) ++ tail));
       }
@@ -110,7 +118,7 @@ module _ (file : List ℕ) (held : Held) (reads : reading file ≡ accepted held
       zero-more = omega arith
 
   -- of an eligible student
-  pub estimated : (before : List Student) (s : Student) (rest : List Student) (v : Values) → held .students ≡ before ++ (s ∷ rest) → out s ≡ accepted v
+  pub estimated : (before : List Enrolled) (s : Enrolled) (rest : List Enrolled) (v : Values) → held .students ≡ before ++ (s ∷ rest) → out s ≡ accepted v
       → Estimated file held s (length (aggregatesOf out before))
   unfolding outcome
   estimated before s rest v e a =
@@ -135,12 +143,12 @@ module _ (file : List ℕ) (held : Held) (reads : reading file ≡ accepted held
       line-is j x y z = λ i. studentLine (s .id) (x i) (y i) (z i) (getD (bandsOf (eligibleOf held) (participation (held .figures)) (Y (held .figures))) j 0)
 
   -- of a refused student, who refuses nobody else
-  pub turned : (before : List Student) (s : Student) (rest : List Student) (f : _) → held .students ≡ before ++ (s ∷ rest) → out s ≡ refused f
+  pub turned : (before : List Enrolled) (s : Enrolled) (rest : List Enrolled) (f : _) → held .students ≡ before ++ (s ∷ rest) → out s ≡ refused f
       → In (refusedLine (s .id) (numberOf f) (placeOf f)) (textOf file)
   turned before s rest f e a = subst (λ (o : Outcome Values). In (lineOf cols (length (aggregatesOf out before)) (s .id) o) (textOf file)) a (printed before s rest e)
 
   -- at most as many are eligible as there are students
-  eligible-within : (ss : List Student) → length (aggregatesOf out ss) ≤ length ss
+  eligible-within : (ss : List Enrolled) → length (aggregatesOf out ss) ≤ length ss
   unfolding aggregatesOf
   eligible-within [] = omega arith
   eligible-within (s ∷ ss) = go (out s) (eligible-within ss)
@@ -162,9 +170,9 @@ module _ (file : List ℕ) (held : Held) (reads : reading file ≡ accepted held
       }
 
   -- the inner calls of curve, ranks and bands never refuse, with buffers of the lengths that they ask for
-  pub never-refused : (table ranks percentiles bands : List ℕ) → length table ≡ 2000 → Even (columns (eligibleOf held) ranks percentiles bands)
+  pub never-refused : (table ranks percentiles bands : List ℕ) → length table ≡ bandCount → Even (columns (eligibleOf held) ranks percentiles bands)
       → (curveRuling (held .figures) table ≡ accepted (values (held .figures)))
-      × (ranksRuling (eligibleOf held) ranks percentiles ≡ accepted tt)
+      × (ranksRuling (eligibleOf held) (lent ranks percentiles) ≡ accepted tt)
       × (bandsRuling (eligibleOf held) (participation (held .figures)) (Y (held .figures)) bands ≡ accepted (remainder (eligibleOf held) (participation (held .figures)) (Y (held .figures))))
   never-refused table ranks percentiles bands l even =
       let c = columns (eligibleOf held) ranks percentiles bands in

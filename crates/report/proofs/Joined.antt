@@ -4,6 +4,7 @@ use native.Mathlib.Omega.{arith}
 use mathlib.Core.Path.{_≡_, refl, sym, ap, subst, _∙_}
 use mathlib.Core.List.{List}
 use lib.ListN.{length, getD, drop}
+use Rattle.paper.specs.Limits.{resultBytes}
 use Rattle.paper.specs.Rulings.{Outcome}
 use Rattle.paper.proofs.Listing.{count-within}
 use Rattle.bestset.specs.Promise.{Values}
@@ -13,7 +14,7 @@ use Rattle.bands.specs.Placing.{remainder, leftOver}
 use Rattle.bands.proofs.Placed.{best-exists}
 use Rattle.listing.specs.Lines.{cohortLine, shown, Shows}
 use Rattle.listing.specs.declared.writing.Line.{Line}
-use Rattle.cohort.specs.Held.{Student}
+use Rattle.cohort.specs.Held.{Enrolled}
 use Rattle.report.specs.Report.{Columns, participation, columnsOf, linesOf, listed}
 use Rattle.report.specs.Inner.{studentsIn, Even, Put}
 use Rattle.report.proofs.Puts.{put-more}
@@ -22,7 +23,7 @@ use Rattle.report.proofs.Puts.{put-more}
 length-students : (n : ℕ) (ids counts results : List ℕ) → length (studentsIn n ids counts results) ≡ n
 unfolding studentsIn
 length-students zero ids counts results = refl
-length-students (suc n) ids counts results = ap suc (length-students n (drop 1 ids) (drop 1 counts) (drop (6 * getD counts 0 0) results))
+length-students (suc n) ids counts results = ap suc (length-students n (drop 1 ids) (drop 1 counts) (drop (resultBytes * getD counts 0 0) results))
 
 -- at most all of the eligible are left over
 pub remainder-within : (aggregates table : List ℕ) (Y : ℕ) → remainder aggregates table Y ≤ length aggregates
@@ -34,7 +35,7 @@ columns-even figures aggregates c e =
     let r = ranks-computed aggregates in
     subst Even (sym e) (record { ranks = r .ranks-long; percentiles = r .percentiles-long; bands = best-exists aggregates (participation figures) (Y figures) .keeps .long })
 
-pub all-listed : (out : Student → Outcome Values) (figures : List ℕ) (n : ℕ) (ids counts results aggregates : List ℕ) (c : Columns) (k : ℕ) (line : Line) (b t u : List ℕ) (start end : ℕ)
+pub all-listed : (out : Enrolled → Outcome Values) (figures : List ℕ) (n : ℕ) (ids counts results aggregates : List ℕ) (c : Columns) (k : ℕ) (line : Line) (b t u : List ℕ) (start end : ℕ)
     → Shows line (cohortLine n (length aggregates) k) → k ≡ remainder aggregates (participation figures) (Y figures) → c ≡ columnsOf figures aggregates
     → Put b t 0 start (shown line) → Put t u start end (linesOf out c 0 (studentsIn n ids counts results))
     → Put b u 0 end (listed out figures (studentsIn n ids counts results) aggregates)

@@ -1,4 +1,5 @@
 pub mod Accepting
+pub mod Best
 pub mod Bounded
 pub mod ByHand
 pub mod Collecting
@@ -9,3 +10,4 @@ pub mod Lining
 pub mod Promised
 pub mod Puts
 pub mod Standing
+pub mod Whole

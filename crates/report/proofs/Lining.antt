@@ -5,9 +5,10 @@ use mathlib.Core.Path.{_≡_, refl, sym, ap, _∙_}
 use mathlib.Core.List.{List, [], _∷_, _++_, append-assoc, append-nil}
 use lib.ListN.{length, getD, drop, length-drop}
 use lib.Seq.{drop-drop}
+use Rattle.paper.specs.Limits.{resultBytes}
 use Rattle.paper.specs.Rulings.{Outcome, accepted, refused}
 use Rattle.bestset.specs.Promise.{Values}
-use Rattle.cohort.specs.Held.{Student}
+use Rattle.cohort.specs.Held.{Enrolled}
 use Rattle.report.specs.Report.{outcome, withAggregate, aggregatesOf, Columns, eligibleLine, lineOf, afterOne, linesOf}
 use Rattle.report.specs.Inner.{studentsIn, outcomeAt, markOf, marksOf, Eligible, Within}
 use Rattle.report.proofs.Standing.{from, at, next, none}
@@ -15,10 +16,10 @@ use Rattle.report.proofs.Collecting.{told-is, rest, aggregates-made, ma
 
 -- of n students in buffers i are listed, j of them eligible
 module _ (catalogue table : List ℕ) (year n : ℕ) (ids counts results marks : List ℕ) (c : Columns) where
-  abbrev out : Student → Outcome Values
+  abbrev out : Enrolled → Outcome Values
   out = outcome catalogue table year
 
-  abbrev those : ℕ → ℕ → List Student
+  abbrev those : ℕ → ℕ → List Enrolled
   those i place = from n ids counts results i place
 
   -- all lines are those so far and those of the rest; all eligible are those so far and those of the rest; the marks of the rest
@@ -37,22 +38,22 @@ module _ (catalogue table : List ℕ) (year n : ℕ) (ids counts results marks :
 -- what follows of those listed so far
 module _ {catalogue table : List ℕ} {year n : ℕ} {ids counts results marks : List ℕ} {c : Columns} {i place j : ℕ} {sofar : List ℕ}
     (f : Far catalogue table year n ids counts results marks c i place j sofar) where
-  abbrev outcomes : Student → Outcome Values
+  abbrev outcomes : Enrolled → Outcome Values
   outcomes = outcome catalogue table year
 
-  abbrev lines-by : ℕ → List Student → List ℕ
+  abbrev lines-by : ℕ → List Enrolled → List ℕ
   lines-by = linesOf outcomes c
 
   pub far-all : n ≤ i → lines-by 0 (studentsIn n ids counts results) ≡ sofar
   unfolding linesOf
-  far-all h = f .lines ∙ ap (λ (l : List Student). sofar ++ lines-by j l) (none n ids counts results i place h) ∙ append-nil sofar
+  far-all h = f .lines ∙ ap (λ (l : List Enrolled). sofar ++ lines-by j l) (none n ids counts results i place h) ∙ append-nil sofar
 
   -- the next student, and those after it
   abbrev one : Outcome Values
   one = outcomeAt catalogue table year results place (getD counts i 0)
 
-  abbrev others : List Student
-  others = from n ids counts results (i + 1) (place + 6 * getD counts i 0)
+  abbrev others : List Enrolled
+  others = from n ids counts results (i + 1) (place + resultBytes * getD counts i 0)
 
   abbrev aggregates : List ℕ
   aggregates = aggregatesOf outcomes others
@@ -81,7 +82,7 @@ module _ {catalogue table : List ℕ} {year n : ℕ} {ids counts results marks :
       go (accepted v) w = omega (arith, w)
 
   pub far-more : (line : List ℕ) → i < n → line ≡ lineOf c j (getD ids i 0) one
-      → Far catalogue table year n ids counts results marks c (i + 1) (place + 6 * getD counts i 0) (j + getD marks i 0) (sofar ++ line)
+      → Far catalogue table year n ids counts results marks c (i + 1) (place + resultBytes * getD counts i 0) (j + getD marks i 0) (sofar ++ line)
   unfolding linesOf
   far-more line l x =
       record {

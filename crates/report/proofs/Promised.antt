@@ -1,76 +1,59 @@
 -- The promise determines the answer and the text buffer, and the computed ones meet it.
 use Prim.Native.Nat.{ℕ, _≤_}
 use native.Mathlib.Omega.{arith}
-use mathlib.Core.Path.{_≡_, refl, sym, ap, subst, _∙_}
-use mathlib.Core.List.{List}
+use mathlib.Core.Path.{_≡_, refl, sym, ap, _∙_}
+use mathlib.Core.List.{List, _++_}
 use lib.ListN.{length, drop, length-append}
-use borrow.Author.Tests.{eq-eqb, ne-eqb}
-use Rattle.paper.specs.Rulings.{Outcome, accepted, refused}
-use Rattle.paper.proofs.Ruled.{refusal-fault, Refusing, tabled}
-use Rattle.paper.specs.declared.refusal.Refusal.the-variants.{WrongLength}
-use Rattle.cohort.specs.Promise.{begun}
+use borrow.Author.Tests.{eq-eqb}
+use Rattle.paper.specs.Rulings.{accepted}
+use Rattle.paper.specs.Promises.{Tells}
+use Rattle.paper.proofs.Promised as every
+use Rattle.paper.proofs.Ruled.{refusal-fault, given-values, tabled}
+use Rattle.paper.proofs.Parted.{laid-start}
+use Rattle.report.specs.Sizes.{textBytes}
 use Rattle.report.specs.Report.{textOf}
-use Rattle.report.specs.Promise.{said, textRules, ruling, Owed, Promise, answer, left}
+use Rattle.report.specs.Promise.{said, textRules, ruling, written, Promise, answer, left}
 use Rattle.report.specs.Inner.{Put}
 use Rattle.report.specs.declared.Answer.{Answer}
 use Rattle.report.specs.declared.Answer.the-variants.{Accepted, Refused}
-use Rattle.report.proofs.Puts.{laid-front}
 
 -- what is said tells the answer
-pub answer-said : (r : Answer) → answer (said r) ≡ r
-answer-said (Accepted length) = refl
-answer-said (Refused x) = ap Refused (refusal-fault x)
-
-pub said-once : (r s : Answer) → said r ≡ said s → r ≡ s
-said-once r s e = sym (answer-said r) ∙ ap answer e ∙ answer-said s
-
--- two permitted results are equal
-pub determined : (file before : List ℕ) (r s : Answer) (after after′ : List ℕ) → Promise file before r after → Promise file before s after′ → (r ≡ s) × (after ≡ after′)
-determined file before r s after after′ = go (ruling file before)
+pub tells : Tells said Accepted Refused
+tells = record { accepting = λ n. refl; refusing = λ x. refl; told = told }
   where
-    go : (o : Outcome ℕ) → Owed file before r after o → Owed file before s after′ o → (r ≡ s) × (after ≡ after′)
-    go (accepted n) a b = (said-once r s (a .0 ∙ sym (b .0)), a .1 ∙ sym (b .1))
-    go (refused f) a b = (said-once r s (a .0 ∙ sym (b .0)), a .1 ∙ sym (b .1))
+    told : (r : Answer) → answer (said r) ≡ r
+    told (Accepted n) = refl
+    told (Refused x) = ap Refused (refusal-fault x)
 
--- the computed answer and buffer are permitted
-pub meets : (file before : List ℕ) → Promise file before (answer (ruling file before)) (left file before (ruling file before))
-meets file before = go (ruling file before) (tabled (textRules before) (length (textOf file)) (refl, tt))
-  where
-    go : (o : Outcome ℕ) → Refusing o → Owed file before (answer o) (left file before o) o
-    go (accepted n) h = (refl, refl)
-    go (refused f) h = (ap refused h, refl)
+module _ (file before : List ℕ) where
+  -- the computed answer and buffer are permitted
+  pub meets : let o = ruling file before in Promise file before (answer o) (left file before o)
+  meets = every.meets tells every.rules-is every.owes-equal (tabled (textRules before) (length (textOf file)) (λ e. refl, tt))
 
--- and no other
-pub only : (file before : List ℕ) (r : Answer) (after : List ℕ) → Promise file before r after → (r ≡ answer (ruling file before)) × (after ≡ left file before (ruling file before))
-only file before r after h = determined file before r (answer (ruling file before)) after (left file before (ruling file before)) h (meets file before)
+  -- and no others
+  pub only : {r : Answer} {b : List ℕ} → Promise file before r b → let o = ruling file before in (r ≡ answer o) × (b ≡ left file before o)
+  only = every.only tells every.rules-is every.owes-equal
 
--- a buffer of 65536 bytes is accepted, whatever the file
-room : (file before : List ℕ) → length before ≡ 65536 → ruling file before ≡ accepted (length (textOf file))
-room file before l = rw (eq-eqb (length before) 65536 l) refl
+  -- two permitted results are equal
+  pub determined : {r s : Answer} {b c : List ℕ} → Promise file before r b → Promise file before s c → (r ≡ s) × (b ≡ c)
+  determined = every.determined tells every.rules-is every.owes-equal
 
-pub length-refused : (file before : List ℕ) → (length before ≡ 65536 → ⊥) → Promise file before (Refused WrongLength) before
-length-refused file before h = simp (ne-eqb _ _ h) (refl, refl)
+  -- a buffer of its length is accepted, whatever the file
+  room : length before ≡ textBytes → ruling file before ≡ accepted (length (textOf file))
+  room l = simp (eq-eqb _ _ l)
 
-pub text-put : (file before after : List ℕ) (n : ℕ) → length before ≡ 65536 → Put before after 0 n (textOf file) → Promise file before (Accepted n) after
-text-put file before after n l p =
-    let z : n ≡ length (textOf file) = omega (arith, p .ends) in
-    subst (Owed file before (Accepted n) after) (sym (room file before l)) (ap accepted z, p .content ∙ laid-front before (textOf file))
+  pub text-put : (after : List ℕ) (n : ℕ) → length before ≡ textBytes → Put before after 0 n (textOf file) → Promise file before (Accepted n) after
+  text-put after n l p =
+      let z : n ≡ length (textOf file) = omega (arith, p .ends) in
+      record { says = ap accepted z ∙ sym (room l); leaves = p .content }
 
--- the text always fits: a lent buffer keeps its length, and the text is in it
-pub fits : (file before after : List ℕ) (r : Answer) → length before ≡ 65536 → length after ≡ 65536 → Promise file before r after → length (textOf file) ≤ 65536
-unfolding begun
-fits file before after r l m h =
-    let o = only file before r after h in
-    let e : length after ≡ length (begun (textOf file) before) = ap length (o .1 ∙ ap (left file before) (room file before l)) in
-    omega (arith, length-append (textOf file) (drop (length (textOf file)) before))
+  -- the text always fits: a lent buffer keeps its length, and the text is in it
+  pub fits : {r : Answer} {after : List ℕ} → length before ≡ textBytes → length after ≡ textBytes → Promise file before r after → length (textOf file) ≤ textBytes
+  fits {after = after} l m h =
+      let e : length after ≡ length (written file before) = ap length (every.left-as (room l) h) in
+      let b : length (written file before) ≡ length (textOf file ++ drop (length (textOf file)) before) = ap length (laid-start before (textOf file)) in
+      omega (arith, length-append (textOf file) (drop (length (textOf file)) before))
 
--- so does the length that is told
-pub length-fits : (file before after : List ℕ) (r : Answer) (n : ℕ) → length before ≡ 65536 → length after ≡ 65536 → Promise file before r after → r ≡ Accepted n → n ≤ 65536
-length-fits file before after r n l m h e =
-    let k : Accepted n ≡ Accepted (length (textOf file)) = sym e ∙ only file before r after h .0 ∙ ap answer (room file before l) in
-    let z : n ≡ length (textOf file) = ap told k in
-    omega (arith, fits file before after r l m h)
-  where
-    told : Answer → ℕ
-    told (Accepted n) = n
-    told (Refused x) = 0
+  -- so does the length that is told
+  pub length-fits : {r : Answer} {after : List ℕ} (n : ℕ) → length before ≡ textBytes → length after ≡ textBytes → Promise file before r after → r ≡ Accepted n → n ≤ textBytes
+  length-fits n l m h e = omega (arith, given-values (textRules before) (length (textOf file)) n (sym (ap said (sym e) ∙ h .says)), fits l m h)

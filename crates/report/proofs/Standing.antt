@@ -5,44 +5,45 @@ use mathlib.Core.Path.{_≡_, refl, ap, _∙_}
 use mathlib.Core.List.{List, [], _∷_, _++_, append-assoc}
 use lib.ListN.{length, getD, take, drop}
 use lib.Seq.{getD-drop, drop-drop, take-at, drop-at}
-use Rattle.cohort.specs.Held.{Student, counted, idsOf, countsOf, resultsOf}
+use Rattle.paper.specs.Limits.{resultBytes}
+use Rattle.cohort.specs.Held.{Enrolled, counted, idsOf, countsOf, resultsOf}
 use Rattle.cohort.specs.Meaning.{Each, FewResults}
 use Rattle.report.specs.Inner.{studentsIn}
 
 -- those from i on, whose results stand from a place on
-abbrev pub from : ℕ → List ℕ → List ℕ → List ℕ → ℕ → ℕ → List Student
+abbrev pub from : ℕ → List ℕ → List ℕ → List ℕ → ℕ → ℕ → List Enrolled
 from n ids counts results i place = studentsIn (n - i) (drop i ids) (drop i counts) (drop place results)
 
-abbrev pub studentAt : List ℕ → List ℕ → List ℕ → ℕ → ℕ → Student
-studentAt ids counts results i place = record { id = getD ids i 0; results = take (6 * getD counts i 0) (drop place results) }
+abbrev pub studentAt : List ℕ → List ℕ → List ℕ → ℕ → ℕ → Enrolled
+studentAt ids counts results i place = record { id = getD ids i 0; results = take (resultBytes * getD counts i 0) (drop place results) }
 
 pub at : (i : ℕ) (xs : List ℕ) → getD (drop i xs) 0 0 ≡ getD xs i 0
 at i xs = let z : i + 0 ≡ i = omega arith in getD-drop i xs 0 0 ∙ ap (λ (k : ℕ). getD xs k 0) z
 
 -- the next, and then those after it
 pub next : (n : ℕ) (ids counts results : List ℕ) (i place : ℕ) → i < n
-    → from n ids counts results i place ≡ studentAt ids counts results i place ∷ from n ids counts results (i + 1) (place + 6 * getD counts i 0)
+    → from n ids counts results i place ≡ studentAt ids counts results i place ∷ from n ids counts results (i + 1) (place + resultBytes * getD counts i 0)
 unfolding studentsIn
 next n ids counts results i place l =
     let e : n - i ≡ suc (n - (i + 1)) = omega arith in
     ap (λ (k : ℕ). studentsIn k (drop i ids) (drop i counts) (drop place results)) e ∙ step
   where
     step : studentsIn (suc (n - (i + 1))) (drop i ids) (drop i counts) (drop place results)
-        ≡ studentAt ids counts results i place ∷ from n ids counts results (i + 1) (place + 6 * getD counts i 0)
+        ≡ studentAt ids counts results i place ∷ from n ids counts results (i + 1) (place + resultBytes * getD counts i 0)
     step =
-        rw (at i ids, at i counts, drop-drop 1 i ids, drop-drop 1 i counts, drop-drop (6 * getD counts i 0) place results) refl
+        rw (at i ids, at i counts, drop-drop 1 i ids, drop-drop 1 i counts, drop-drop (resultBytes * getD counts i 0) place results) refl
 
 pub none : (n : ℕ) (ids counts results : List ℕ) (i place : ℕ) → n ≤ i → from n ids counts results i place ≡ []
 unfolding studentsIn
 none n ids counts results i place h = let e : n - i ≡ 0 = omega arith in ap (λ (k : ℕ). studentsIn k (drop i ids) (drop i counts) (drop place results)) e
 
 -- students laid into buffers stand there
-pub stand : (ss : List Student) (x y z : List ℕ) → Each FewResults ss → studentsIn (length ss) (idsOf ss ++ x) (countsOf ss ++ y) (resultsOf ss ++ z) ≡ ss
+pub stand : (ss : List Enrolled) (x y z : List ℕ) → Each FewResults ss → studentsIn (length ss) (idsOf ss ++ x) (countsOf ss ++ y) (resultsOf ss ++ z) ≡ ss
 unfolding studentsIn resultsOf
 stand [] x y z h = refl
 stand (s ∷ ss) x y z h =
     let a = append-assoc (s .results) (resultsOf ss) z in
-    let l : length (s .results) ≡ 6 * counted s = h .0 .0 in
-    let t : take (6 * counted s) ((s .results ++ resultsOf ss) ++ z) ≡ s .results = ap (take (6 * counted s)) a ∙ take-at (s .results) (resultsOf ss ++ z) (6 * counted s) l in
-    let d : drop (6 * counted s) ((s .results ++ resultsOf ss) ++ z) ≡ resultsOf ss ++ z = ap (drop (6 * counted s)) a ∙ drop-at (s .results) (resultsOf ss ++ z) (6 * counted s) l in
-    rw (t, d) (ap (λ (l : List Student). s ∷ l) (stand ss x y z (h .1)))
+    let l : length (s .results) ≡ resultBytes * counted s = h .0 .0 in
+    let t : take (resultBytes * counted s) ((s .results ++ resultsOf ss) ++ z) ≡ s .results = ap (take (resultBytes * counted s)) a ∙ take-at (s .results) (resultsOf ss ++ z) (resultBytes * counted s) l in
+    let d : drop (resultBytes * counted s) ((s .results ++ resultsOf ss) ++ z) ≡ resultsOf ss ++ z = ap (drop (resultBytes * counted s)) a ∙ drop-at (s .results) (resultsOf ss ++ z) (resultBytes * counted s) l in
+    rw (t, d) (ap (λ (l : List Enrolled). s ∷ l) (stand ss x y z (h .1)))

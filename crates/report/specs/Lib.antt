@@ -1,3 +1,4 @@
+pub mod Sizes
 pub mod Report
 pub mod Promise
 pub mod Meaning

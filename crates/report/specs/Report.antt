@@ -3,7 +3,7 @@ use Prim.Native.Nat.{ℕ, suc}
 use mathlib.Core.List.{List, [], _∷_, _++_}
 use lib.ListN.{length, getD}
 use Rattle.paper.specs.Rulings.{Outcome, accepted, refused, numberOf, placeOf}
-use Rattle.bestset.specs.Counting.{student}
+use Rattle.results.specs.Results.{student}
 use Rattle.bestset.specs.Promise.{Values}
 use Rattle.bestset.specs.Computed.{computed}
 use Rattle.curve.specs.Population.{Y, rate}
@@ -11,12 +11,12 @@ use Rattle.curve.specs.Curve.{tableOf}
 use Rattle.ranks.specs.Ranking.{ranksOf, percentilesOf}
 use Rattle.bands.specs.Placing.{remainder}
 use Rattle.bands.specs.Search.{bandsOf}
-use Rattle.cohort.specs.Held.{Student, Held}
+use Rattle.cohort.specs.Held.{Enrolled, Held}
 use Rattle.cohort.specs.Reading.{reading}
 use Rattle.listing.specs.Lines.{cohortLine, studentLine, refusedLine, fileLine}
 
 -- a student's best set, or why there is none
-unfoldable pub outcome : List ℕ → List ℕ → ℕ → Student → Outcome Values
+unfoldable pub outcome : List ℕ → List ℕ → ℕ → Enrolled → Outcome Values
 outcome catalogue table year s = computed (student catalogue (s .results) year) table
 
 -- the aggregates of the eligible, who alone are the cohort, in file order
@@ -24,7 +24,7 @@ abbrev pub withAggregate : Outcome Values → List ℕ → List ℕ
 withAggregate (accepted v) rest = v .aggregate ∷ rest
 withAggregate (refused f) rest = rest
 
-unfoldable pub aggregatesOf : (Student → Outcome Values) → List Student → List ℕ
+unfoldable pub aggregatesOf : (Enrolled → Outcome Values) → List Enrolled → List ℕ
 aggregatesOf outcomes [] = []
 aggregatesOf outcomes (s ∷ students) = withAggregate (outcomes s) (aggregatesOf outcomes students)
 
@@ -48,7 +48,7 @@ abbrev pub afterOne : ℕ → Outcome Values → ℕ
 afterOne j (accepted v) = suc j
 afterOne j (refused f) = j
 
-unfoldable pub linesOf : (Student → Outcome Values) → Columns → ℕ → List Student → List ℕ
+unfoldable pub linesOf : (Enrolled → Outcome Values) → Columns → ℕ → List Enrolled → List ℕ
 linesOf outcomes c j [] = []
 linesOf outcomes c j (s ∷ students) = lineOf c j (s .id) (outcomes s) ++ linesOf outcomes c (afterOne j (outcomes s)) students
 
@@ -65,13 +65,13 @@ columnsOf figures aggregates = record {
 }
 
 -- the listing of a cohort: the cohort's line, then a line per student
-abbrev pub listed : (Student → Outcome Values) → List ℕ → List Student → List ℕ → List ℕ
+abbrev pub listed : (Enrolled → Outcome Values) → List ℕ → List Enrolled → List ℕ → List ℕ
 listed outcomes figures students aggregates =
     cohortLine (length students) (length aggregates) (remainder aggregates (participation figures) (Y figures))
     ++ linesOf outcomes (columnsOf figures aggregates) 0 students
 
 -- the outcomes of what a file holds, and its eligible
-abbrev pub outcomeOf : Held → Student → Outcome Values
+abbrev pub outcomeOf : Held → Enrolled → Outcome Values
 outcomeOf held = outcome (held .catalogue) (held .table) (held .year)
 
 abbrev pub eligibleOf : Held → List ℕ

@@ -2,11 +2,18 @@
 ghost use mathlib.Core.Path.{_≡_};
 ghost use Prim.Native.Nat.{_≤_};
 ghost use lib.ListN.{length};
+ghost use Rattle.report.specs.Sizes.{textBytes};
 ghost use Rattle.report.specs.Report.{outcome, aggregatesOf, listed, textOf};
 ghost use Rattle.report.specs.Inner.{studentsIn, Eligible, Few, Populated, Placeable, columns, Put};
 ghost use Rattle.report.specs.Promise.{Promise};
+use paper::limits::CATALOGUE_BYTES;
+use paper::limits::ENTRY_BYTES;
+use paper::limits::FIGURE_COUNT;
+use paper::limits::MOST_STUDENTS;
+use paper::limits::RESULTS_BYTES;
+use paper::limits::ROW_BYTES;
+use paper::limits::TABLE_BYTES;
 use paper::refusal::Refusal;
-use subjects::scores::ROW_BYTES;
 
 mod lines;
 mod placing;
@@ -20,7 +27,7 @@ pub enum Answer {
 }
 
 // The bytes of a lent text buffer.
-const TEXT: usize = 65536;
+pub const TEXT_BYTES: usize = 65536;
 
 // Ranks and places the eligible, and lists the cohort: its line, then a line per student. Answers where the text ends.
 fn list_placed(
@@ -42,7 +49,7 @@ fn list_placed(
 ) -> usize
     requires { ⌜ Few students (now counts) (now results) × (students ≤ length (now ids)) × Placeable (now figures) population (columns (now aggregates) (now ranks) (now percentiles) (now bands))
         × Eligible (outcome (now catalogue) (now table) year) (studentsIn students (now ids) (now counts) (now results)) (now aggregates) (now marks)
-        × (length (now text) ≡ 65536) ⌝ }
+        × (length (now text) ≡ textBytes) ⌝ }
     ensures { λ r. ⌜ Put (now (text .entry)) (now (text .exit)) 0 r
         (listed (outcome (now (catalogue .entry)) (now (table .entry)) year) (now (figures .entry))
         (studentsIn students (now (ids .entry)) (now (counts .entry)) (now (results .entry))) (now (aggregates .entry))) ⌝ }
@@ -81,14 +88,14 @@ fn list_cohort(
     results: &[u8],
     text: &mut [u8],
 ) -> usize
-    requires { ⌜ Few students (now counts) (now results) × (students ≤ length (now ids)) × Populated (now figures) population × (length (now text) ≡ 65536) ⌝ }
+    requires { ⌜ Few students (now counts) (now results) × (students ≤ length (now ids)) × Populated (now figures) population × (length (now text) ≡ textBytes) ⌝ }
     ensures { λ r. ⌜ Put (now (text .entry)) (now (text .exit)) 0 r
         (listed (outcome (now (catalogue .entry)) (now (table .entry)) year) (now (figures .entry))
         (studentsIn students (now (ids .entry)) (now (counts .entry)) (now (results .entry)))
         (aggregatesOf (outcome (now (catalogue .entry)) (now (table .entry)) year) (studentsIn students (now (ids .entry)) (now (counts .entry)) (now (results .entry))))) ⌝ }
 {
-    let mut aggregates = [0u32; 512];
-    let mut marks = [0u8; 512];
+    let mut aggregates = [0u32; MOST_STUDENTS];
+    let mut marks = [0u8; MOST_STUDENTS];
     let n = students::collect(
         catalogue,
         table,
@@ -99,9 +106,9 @@ fn list_cohort(
         &mut aggregates,
         &mut marks,
     );
-    let mut ranks = [0u32; 512];
-    let mut percentiles = [0u32; 512];
-    let mut bands = [0u16; 512];
+    let mut ranks = [0u32; MOST_STUDENTS];
+    let mut percentiles = [0u32; MOST_STUDENTS];
+    let mut bands = [0u16; MOST_STUDENTS];
     list_placed(
         catalogue,
         table,
@@ -123,15 +130,15 @@ fn list_cohort(
 
 // Lists a file; answers where the text ends.
 fn list_file(file: &[u8], text: &mut [u8]) -> usize
-    requires { ⌜ length (now text) ≡ 65536 ⌝ }
+    requires { ⌜ length (now text) ≡ textBytes ⌝ }
     ensures { λ r. ⌜ Put (now (text .entry)) (now (text .exit)) 0 r (textOf (now (file .entry))) ⌝ }
 {
-    let mut catalogue = [0u8; 320];
-    let mut table = [0u8; 12800];
-    let mut figures = [0u32; 10];
-    let mut ids = [0u32; 512];
-    let mut counts = [0u8; 512];
-    let mut results = [0u8; 49152];
+    let mut catalogue = [0u8; CATALOGUE_BYTES];
+    let mut table = [0u8; TABLE_BYTES];
+    let mut figures = [0u32; FIGURE_COUNT];
+    let mut ids = [0u32; MOST_STUDENTS];
+    let mut counts = [0u8; MOST_STUDENTS];
+    let mut results = [0u8; RESULTS_BYTES];
     let read = cohort::read(
         file,
         &mut catalogue,
@@ -151,7 +158,7 @@ fn list_file(file: &[u8], text: &mut [u8]) -> usize
             population,
             rate: _,
         } => {
-            let c = 5 * subjects;
+            let c = ENTRY_BYTES * subjects;
             let t = ROW_BYTES * subjects;
             list_cohort(
                 &catalogue[..c],
@@ -173,7 +180,7 @@ fn list_file(file: &[u8], text: &mut [u8]) -> usize
 pub fn report(file: &[u8], text: &mut [u8]) -> Answer
     ensures { λ r. ⌜ Promise (now (file .entry)) (now (text .entry)) r (now (text .exit)) ⌝ }
 {
-    if text.len() != TEXT {
+    if text.len() != TEXT_BYTES {
         return Answer::Refused(Refusal::WrongLength);
     }
     let length = list_file(file, text);

@@ -2,14 +2,16 @@
 ghost use mathlib.Core.Path.{_≡_};
 ghost use Prim.Native.Nat.{_+_, _*_, _≤_, _<_};
 ghost use lib.ListN.{length};
+ghost use Rattle.paper.specs.Limits.{resultBytes};
 ghost use Rattle.bestset.specs.Promise.{said};
-ghost use Rattle.listing.specs.Lines.{Shows};
+ghost use Rattle.listing.specs.Lines.{Shows, lineBytes};
 ghost use Rattle.report.specs.Report.{outcome, eligibleLine, lineOf, linesOf};
 ghost use Rattle.report.specs.Inner.{studentsIn, outcomeAt, markOf, Eligible, Few, Even, columns, Within, Put};
 use crate::students;
 use crate::writing;
 use bestset::Answer;
 use listing::writing::Line;
+use paper::limits::RESULT_BYTES;
 
 // The line of the j-th of the eligible.
 fn eligible_line(
@@ -64,7 +66,7 @@ fn line_at(
     percentiles: &[u32],
     bands: &[u16],
 ) -> Line
-    requires { ⌜ (place + 6 * count ≤ length (now results)) × (mark ≡ markOf (outcomeAt (now catalogue) (now table) year (now results) place count))
+    requires { ⌜ (place + resultBytes * count ≤ length (now results)) × (mark ≡ markOf (outcomeAt (now catalogue) (now table) year (now results) place count))
         × Even (columns (now aggregates) (now ranks) (now percentiles) (now bands))
         × Within j (outcomeAt (now catalogue) (now table) year (now results) place count) (length (now aggregates)) ⌝ }
     ensures { λ r. ⌜ Shows r (lineOf (columns (now (aggregates .entry)) (now (ranks .entry)) (now (percentiles .entry)) (now (bands .entry))) j id
@@ -96,7 +98,7 @@ pub(crate) fn lines(
 ) -> usize
     requires { ⌜ Few students (now counts) (now results) × (students ≤ length (now ids)) × Even (columns (now aggregates) (now ranks) (now percentiles) (now bands))
         × Eligible (outcome (now catalogue) (now table) year) (studentsIn students (now ids) (now counts) (now results)) (now aggregates) (now marks)
-        × (start + 64 * students ≤ length (now text)) ⌝ }
+        × (start + lineBytes * students ≤ length (now text)) ⌝ }
     ensures { λ r. ⌜ Put (now (text .entry)) (now (text .exit)) start r
         (linesOf (outcome (now (catalogue .entry)) (now (table .entry)) year)
         (columns (now (aggregates .entry)) (now (ranks .entry)) (now (percentiles .entry)) (now (bands .entry))) 0
@@ -126,7 +128,7 @@ pub(crate) fn lines(
         );
         end = writing::append(text, end, line);
         j += mark as usize;
-        place += 6 * count;
+        place += RESULT_BYTES * count;
         i += 1;
     }
     end

@@ -4,6 +4,7 @@ ghost use Rattle.curve.specs.Population.{Y};
 ghost use Rattle.bands.specs.Placing.{remainder};
 ghost use Rattle.report.specs.Report.{participation, columnsOf};
 ghost use Rattle.report.specs.Inner.{Placeable, columns};
+use paper::limits::BAND_COUNT;
 
 // Ranks the eligible and places them in bands, and answers the remainder.
 pub(crate) fn place(
@@ -18,7 +19,7 @@ pub(crate) fn place(
     ensures { λ r. ⌜ (columns (now (aggregates .entry)) (now (ranks .exit)) (now (percentiles .exit)) (now (bands .exit)) ≡ columnsOf (now (figures .entry)) (now (aggregates .entry)))
         × (r ≡ remainder (now (aggregates .entry)) (participation (now (figures .entry))) (Y (now (figures .entry)))) ⌝ }
 {
-    let mut table = [0u32; 2000];
+    let mut table = [0u32; BAND_COUNT];
     curve::curve(figures, &mut table);
     ranks::ranks(aggregates, ranks, percentiles);
     let placed = bands::place(aggregates, &table, population, bands);

@@ -2,10 +2,12 @@
 ghost use mathlib.Core.Path.{_≡_};
 ghost use Prim.Native.Nat.{_+_, _*_, _≤_, _<_};
 ghost use lib.ListN.{length};
+ghost use Rattle.paper.specs.Limits.{resultBytes, mostStudents};
 ghost use Rattle.bestset.specs.Promise.{said};
 ghost use Rattle.report.specs.Report.{outcome};
 ghost use Rattle.report.specs.Inner.{outcomeAt, markOf, Few, kept, Collected};
 use bestset::Answer;
+use paper::limits::RESULT_BYTES;
 
 // The best set of the student whose results stand from a place on.
 pub(crate) fn best_at(
@@ -16,10 +18,10 @@ pub(crate) fn best_at(
     place: usize,
     count: usize,
 ) -> Answer
-    requires { ⌜ place + 6 * count ≤ length (now results) ⌝ }
+    requires { ⌜ place + resultBytes * count ≤ length (now results) ⌝ }
     ensures { λ r. ⌜ said r ≡ outcomeAt (now (catalogue .entry)) (now (table .entry)) year (now (results .entry)) place count ⌝ }
 {
-    let end = place + 6 * count;
+    let end = place + RESULT_BYTES * count;
     bestset::best_set(catalogue, table, &results[place..end], year)
 }
 
@@ -57,7 +59,7 @@ pub(crate) fn collect(
     aggregates: &mut [u32],
     marks: &mut [u8],
 ) -> usize
-    requires { ⌜ Few students (now counts) (now results) × (length (now aggregates) ≡ 512) × (length (now marks) ≡ 512) ⌝ }
+    requires { ⌜ Few students (now counts) (now results) × (length (now aggregates) ≡ mostStudents) × (length (now marks) ≡ mostStudents) ⌝ }
     ensures { λ r. ⌜ Collected (outcome (now (catalogue .entry)) (now (table .entry)) year) students (now (counts .entry)) (now (results .entry)) (now (aggregates .exit)) (now (marks .exit)) r ⌝ }
 {
     let mut i = 0;
@@ -70,7 +72,7 @@ pub(crate) fn collect(
         let mark = mark_of(answer);
         marks[i] = mark;
         eligible += mark as usize;
-        place += 6 * count;
+        place += RESULT_BYTES * count;
         i += 1;
     }
     eligible

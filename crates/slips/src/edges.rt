@@ -1,9 +1,11 @@
 // Year 2017 counts in 2021, 2016 doesn't; English C and D differ; score 10000 and 10001 differ.
 use crate::pupils;
 use crate::pupils::Results;
-use subjects::rows;
-use subjects::scores::Raw;
-use subjects::scores::Scaled;
+use crate::pupils::TABLE;
+use paper::limits::TOP_SCORE;
+use scores::rows;
+use scores::slots::Raw;
+use scores::slots::Scaled;
 
 // Six Generals: five of 2021 at 50.00, English first; and Geography.
 fn six(letter: u8, number: u8, year: u16) -> Results {
@@ -17,8 +19,8 @@ fn six(letter: u8, number: u8, year: u16) -> Results {
 }
 
 // Geography 100 scores more than 100.00.
-fn raise(table: &mut [u8; 1600]) {
-    rows::store(table, 7, Raw(100), Scaled(10001));
+fn raise(table: &mut [u8; TABLE]) {
+    rows::store(table, 7, Raw(100), Scaled(TOP_SCORE + 1));
 }
 
 pub(crate) fn run() {

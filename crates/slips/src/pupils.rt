@@ -1,9 +1,13 @@
 // The subjects of the paper's example, and Geography; their scores; students' results.
 use crate::saying;
 use bestset::Answer;
-use subjects::rows;
-use subjects::scores::Raw;
-use subjects::scores::Scaled;
+use paper::limits::ENTRY_BYTES;
+use paper::limits::RESULT_BYTES;
+use paper::limits::ROW_BYTES;
+use paper::limits::SLOTS;
+use scores::rows;
+use scores::slots::Raw;
+use scores::slots::Scaled;
 
 // Places in the catalogue.
 pub(crate) const ENGLISH: u8 = 0;
@@ -22,18 +26,33 @@ pub(crate) const HOSPITALITY: u8 = 6;
 
 pub(crate) const GEOGRAPHY: u8 = 7;
 
+// Eight subjects: the bytes of their catalogue, and of their scores.
+const SUBJECTS: usize = 8;
+
+const CATALOGUE: usize = SUBJECTS * ENTRY_BYTES;
+
+pub(crate) const TABLE: usize = SUBJECTS * ROW_BYTES;
+
+// The last slot of a row.
+const LAST_SLOT: u16 = SLOTS as u16;
+
+// The bytes of six results, and of those before the last.
+const RESULTS: usize = 6 * RESULT_BYTES;
+
+const LAST: usize = RESULTS - RESULT_BYTES;
+
 // A subject's kind, strand and identity; its level is 0.
-fn subject(catalogue: &mut [u8; 40], place: usize, kind: u8, strand: u8, identity: u8) {
-    if place < 8 {
-        catalogue[5 * place] = kind;
-        catalogue[5 * place + 1] = strand;
-        catalogue[5 * place + 4] = identity;
+fn subject(catalogue: &mut [u8; CATALOGUE], place: usize, kind: u8, strand: u8, identity: u8) {
+    if place < SUBJECTS {
+        catalogue[ENTRY_BYTES * place] = kind;
+        catalogue[ENTRY_BYTES * place + 1] = strand;
+        catalogue[ENTRY_BYTES * place + 4] = identity;
     }
 }
 
 // Essential Mathematics and Hospitality are Applied, the others General.
-fn catalogue() -> [u8; 40] {
-    let mut catalogue = [0u8; 40];
+fn catalogue() -> [u8; CATALOGUE] {
+    let mut catalogue = [0u8; CATALOGUE];
     subject(&mut catalogue, 0, 1, 1, 1);
     subject(&mut catalogue, 1, 1, 2, 2);
     subject(&mut catalogue, 2, 1, 0, 3);
@@ -48,15 +67,15 @@ fn catalogue() -> [u8; 40] {
 // Slot j of a General subject scores j.00.
 fn general(table: &mut [u8], subject: usize) {
     let mut slot = 1u16;
-    while slot <= 100 {
+    while slot <= LAST_SLOT {
         rows::store(table, subject, Raw(slot as u8), Scaled(100 * slot));
         slot += 1;
     }
 }
 
 // Essential Mathematics A is 95.00, Hospitality B 60.00.
-pub(crate) fn scores() -> [u8; 1600] {
-    let mut table = [255u8; 1600];
+pub(crate) fn scores() -> [u8; TABLE] {
+    let mut table = [255u8; TABLE];
     general(&mut table, 0);
     general(&mut table, 1);
     general(&mut table, 2);
@@ -70,7 +89,7 @@ pub(crate) fn scores() -> [u8; 1600] {
 
 // The bytes of six results.
 pub(crate) struct Results {
-    bytes: [u8; 36],
+    bytes: [u8; RESULTS],
     length: usize,
 }
 
@@ -78,7 +97,7 @@ impl Results {
     // No results yet.
     pub(crate) fn none() -> Results {
         Results {
-            bytes: [0; 36],
+            bytes: [0; RESULTS],
             length: 0,
         }
     }
@@ -86,13 +105,13 @@ impl Results {
     // And one of a year.
     pub(crate) fn dated(mut self, subject: u8, letter: u8, number: u8, year: u16) -> Results {
         let at = self.length;
-        if at <= 30 {
+        if at <= LAST {
             self.bytes[at + 1] = subject;
             self.bytes[at + 2] = letter;
             self.bytes[at + 3] = number;
             self.bytes[at + 4] = (year / 256) as u8;
             self.bytes[at + 5] = (year % 256) as u8;
-            self.length = at + 6;
+            self.length = at + RESULT_BYTES;
         }
         self
     }
@@ -117,13 +136,13 @@ fn told(answer: Answer) {
 }
 
 // The best set of six results.
-fn chosen(catalogue: &[u8; 40], table: &[u8; 1600], results: &[u8; 36]) {
+fn chosen(catalogue: &[u8; CATALOGUE], table: &[u8; TABLE], results: &[u8; RESULTS]) {
     let answer = bestset::best_set(catalogue, table, results, 2021);
     told(answer);
 }
 
 // What is asked, and the best set in 2021.
-pub(crate) fn best(what: &[u8], table: &[u8; 1600], results: Results) {
+pub(crate) fn best(what: &[u8], table: &[u8; TABLE], results: Results) {
     saying::text(what);
     let subjects = catalogue();
     let bytes = results.bytes;

@@ -1,6 +1,10 @@
 // What is printed: texts, numbers with decimals, refusals.
 use libc::STDOUT_FILENO;
+use paper::limits::BAND_STEP;
 use paper::refusal::Refusal;
+
+// The bytes of a line.
+const LINE: usize = 64;
 
 pub(crate) fn text(text: &[u8]) {
     io::write_all(STDOUT_FILENO, text);
@@ -29,7 +33,7 @@ pub(crate) fn thousandths(n: u64) {
 
 // The ATAR of a band, and a space.
 pub(crate) fn atar(band: u16) {
-    hundredths(5 * band as u64);
+    hundredths(BAND_STEP * band as u64);
     text(b" ");
 }
 
@@ -46,7 +50,7 @@ fn part(bytes: &[u8], length: usize) {
 }
 
 // What a line of the listing shows.
-fn shown(bytes: &[u8; 64], length: usize) {
+fn shown(bytes: &[u8; LINE], length: usize) {
     part(bytes, length);
 }
 

@@ -4,6 +4,9 @@ use crate::pupils::Results;
 use crate::saying;
 use bands::Answer;
 use curve::Answer as Curved;
+use paper::limits::BAND_COUNT;
+use paper::limits::MOST_ENTRY;
+use paper::limits::TALLY_COUNT;
 
 // Student 7, whom five highest first, rules after, refuses.
 fn seven() -> Results {
@@ -67,7 +70,7 @@ fn placed(what: &[u8], answer: Answer, bands: &[u16]) {
 
 // Split by list order they have 99.95 and 99.90; with the band of the first of them both have 99.95.
 fn tied() {
-    let full = [1000000u32; 2000];
+    let full = [MOST_ENTRY; BAND_COUNT];
     let aggregates = [40000u32, 40000, 30000];
     let mut bands = [0u16; 3];
     let answer = bands::place(&aggregates, &full, 2000, &mut bands);
@@ -76,7 +79,7 @@ fn tied() {
         answer,
         &bands,
     );
-    let mut counts = [0u32; 50001];
+    let mut counts = [0u32; TALLY_COUNT];
     let mut others = [0u16; 3];
     let again = bands::place_by_tally(&aggregates, &full, 2000, &mut counts, &mut others);
     placed(b"not splitting tied students, by tally: ", again, &others);
@@ -84,7 +87,7 @@ fn tied() {
 
 // Half a place in each band. Rounded up each is one, and the student has 99.95; rounded down each is none, and the student is left.
 fn halves() {
-    let full = [1000000u32; 2000];
+    let full = [MOST_ENTRY; BAND_COUNT];
     let aggregates = [40000u32];
     let mut bands = [0u16; 1];
     let answer = bands::place(&aggregates, &full, 1000, &mut bands);
@@ -94,7 +97,7 @@ fn halves() {
 // At r=7500 a is 0: the entries of bands 0 and 1. Divided by a² the first of them has no value.
 fn undivided() {
     let figures = [0u32, 10000, 0, 0, 0, 0, 7500, 0, 0, 0];
-    let mut table = [0u32; 2000];
+    let mut table = [0u32; BAND_COUNT];
     let answer = curve::curve(&figures, &mut table);
     saying::text(b"not dividing by 0 at r=7500: ");
     if let Curved::Refused(x) = answer {

@@ -2,17 +2,20 @@
 use crate::saying;
 use ranks::Answer;
 
+// The students of the table.
+const STUDENTS: usize = 51493;
+
 // Polyranks in hundredths: 0.12 to 96.25, again and again, so that they are above Anna's and below Lauren's.
-fn between(values: &mut [u32; 51493]) {
+fn between(values: &mut [u32; STUDENTS]) {
     let mut i = 0;
-    while i < 51493 {
+    while i < STUDENTS {
         values[i] = 12 + (i % 9614) as u32;
         i += 1;
     }
 }
 
 // Those of the table's students: seven at the front, two at the end.
-fn named(values: &mut [u32; 51493]) {
+fn named(values: &mut [u32; STUDENTS]) {
     values[0] = 9872;
     values[1] = 9730;
     values[2] = 9665;
@@ -20,15 +23,15 @@ fn named(values: &mut [u32; 51493]) {
     values[4] = 9642;
     values[5] = 9630;
     values[6] = 9626;
-    values[51491] = 11;
-    values[51492] = 8;
+    values[STUDENTS - 2] = 11;
+    values[STUDENTS - 1] = 8;
 }
 
 // A rank and a percentile for each.
 fn ranked(
-    values: &[u32; 51493],
-    ranks: &mut [u32; 51493],
-    percentiles: &mut [u32; 51493],
+    values: &[u32; STUDENTS],
+    ranks: &mut [u32; STUDENTS],
+    percentiles: &mut [u32; STUDENTS],
 ) -> Answer {
     ranks::ranks(values, ranks, percentiles)
 }
@@ -47,9 +50,9 @@ fn row(name: &[u8], value: u32, rank: u32, percentile: u32) {
 }
 
 pub(crate) fn run() {
-    let mut values = [0u32; 51493];
-    let mut ranks = [0u32; 51493];
-    let mut percentiles = [0u32; 51493];
+    let mut values = [0u32; STUDENTS];
+    let mut ranks = [0u32; STUDENTS];
+    let mut percentiles = [0u32; STUDENTS];
     between(&mut values);
     named(&mut values);
     let answer = ranked(&values, &mut ranks, &mut percentiles);
@@ -64,6 +67,16 @@ pub(crate) fn run() {
     row(b"Andrew", values[4], ranks[4], percentiles[4]);
     row(b"Linh", values[5], ranks[5], percentiles[5]);
     row(b"Lauren", values[6], ranks[6], percentiles[6]);
-    row(b"Anna", values[51491], ranks[51491], percentiles[51491]);
-    row(b"Nathan", values[51492], ranks[51492], percentiles[51492]);
+    row(
+        b"Anna",
+        values[STUDENTS - 2],
+        ranks[STUDENTS - 2],
+        percentiles[STUDENTS - 2],
+    );
+    row(
+        b"Nathan",
+        values[STUDENTS - 1],
+        ranks[STUDENTS - 1],
+        percentiles[STUDENTS - 1],
+    );
 }

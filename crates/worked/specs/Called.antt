@@ -3,18 +3,19 @@ use Prim.Native.Nat.{ℕ}
 use mathlib.Core.Path.{_≡_}
 use mathlib.Core.List.{List}
 use lib.ListN.{length}
+use Rattle.paper.specs.Limits.{bandCount, tallyCount}
 use Rattle.curve.specs.Promise.{PopulationPromise, Promise as CurvePromise}
 use Rattle.curve.specs.declared.Answer.{Answer as CurveAnswer}
-use Rattle.bands.specs.Promise.{Promise as BandsPromise, TallyPromise}
+use Rattle.bands.specs.Promise.{Promise as BandsPromise, Lent, lent, TallyPromise}
 use Rattle.bands.specs.declared.Answer.{Answer as BandsAnswer}
 
 -- Y and r of ten figures: alone, or with the table
 pub data Rated (figures : List ℕ) (r : CurveAnswer) : Type 0 where
   alone : PopulationPromise figures r → Rated figures r
-  withTable : (before after : List ℕ) → length before ≡ 2000 → CurvePromise figures before r after → Rated figures r
+  withTable : (before after : List ℕ) → length before ≡ bandCount → CurvePromise figures before r after → Rated figures r
 
 -- bands and remainder: by direct count, or by tally
 pub data Placed (aggregates table : List ℕ) (Y : ℕ) (r : BandsAnswer) (bands : List ℕ) : Type 0 where
   directly : (before : List ℕ) → length before ≡ length aggregates → BandsPromise aggregates table Y before r bands → Placed aggregates table Y r bands
-  byTally : (counts before after : List ℕ) → length counts ≡ 50001 → length before ≡ length aggregates
-      → TallyPromise aggregates table Y counts before r after bands → Placed aggregates table Y r bands
+  byTally : (before : Lent) (counts : List ℕ) → length (before .counts) ≡ tallyCount → length (before .bands) ≡ length aggregates
+      → TallyPromise aggregates table Y before r (lent counts bands) → Placed aggregates table Y r bands

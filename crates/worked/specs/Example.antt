@@ -3,13 +3,14 @@ use Prim.Native.Nat.{ℕ, _+_, _*_, _^_}
 use mathlib.Core.Path.{_≡_}
 use mathlib.Core.List.{List, [], _∷_, map}
 use lib.ListN.{length, getD}
+use Rattle.paper.specs.Limits.{bandCount, bandStep}
 use Rattle.paper.specs.Rulings.{Outcome, accepted}
-use Rattle.bestset.specs.Counting.{Student}
+use Rattle.results.specs.Results.{Student}
 use Rattle.bestset.specs.Promise.{Promise as BestPromise, said as saidBest, Values as Best}
 use Rattle.bestset.specs.declared.Answer.{Answer as BestAnswer}
 use Rattle.curve.specs.Promise.{Promise as CurvePromise, said as saidCurve, Values as Population}
 use Rattle.curve.specs.declared.Answer.{Answer as CurveAnswer}
-use Rattle.curve.proofs.ByHand.{aged17}
+use Rattle.curve.specs.Examples.{aged17}
 use Rattle.bands.specs.Promise.{said as saidBands}
 use Rattle.bands.specs.declared.Answer.{Answer as BandsAnswer}
 use Rattle.worked.specs.Called.{Rated, Placed}
@@ -37,7 +38,7 @@ atRate r = aged17 10000 r
 
 -- band k is ATAR 0.05k, in hundredths
 abbrev pub atarOf : ℕ → ℕ
-atarOf k = 5 * k
+atarOf k = bandStep * k
 
 infix 68 best-set_by_is_
 infix 68 figures_give_
@@ -58,7 +59,7 @@ abbrev pub Holds : Example → Type 0
 Holds (best-set s by table is o) = (r : BestAnswer) → BestPromise s table r → saidBest r ≡ o
 Holds (figures q give o) = (r : CurveAnswer) → Rated q r → saidCurve r ≡ o
 Holds (rate r band k has v) =
-    (a : CurveAnswer) (before after : List ℕ) → length before ≡ 2000 → CurvePromise (atRate r) before a after
+    (a : CurveAnswer) (before after : List ℕ) → length before ≡ bandCount → CurvePromise (atRate r) before a after
     → (saidCurve a ≡ counted 10000 r) × (getD after k 0 ≡ v)
 Holds (aggregates xs by table of Y get atars leaving n) =
     (r : BandsAnswer) (bands : List ℕ) → Placed xs table Y r bands → (saidBands r ≡ accepted n) × (map atarOf bands ≡ atars)

@@ -1,20 +1,16 @@
 -- The paper's examples that are marked P.
-use Prim.Native.Nat.{ℕ}
 use mathlib.Core.List.{List, [], _∷_}
+use Rattle.paper.specs.Letters.{letterB, letterC}
 use Rattle.paper.specs.Rulings.{refused, _at_}
-use Rattle.bestset.specs.Counting.{Student, student}
-use Rattle.bestset.proofs.ByHand.{seven, eight, nine, catalogue, table, result, catalogue2, table2, three}
-use Rattle.curve.proofs.ByHand.{aged17}
-use Rattle.bands.proofs.ByHand.{full}
+use Rattle.results.specs.Results.{Student, student}
+use Rattle.bestset.specs.Examples.{seven, eight, nine, eleven, table, result, catalogue2, table2, three}
+use Rattle.curve.specs.Examples.{aged17}
+use Rattle.tally.specs.Examples.{full}
 use Rattle.worked.specs.Example.{_·_, chosen, counted, Example, best-set_by_is_, figures_give_, rate_band_has_, aggregates_by_of_get_leaving_}
-
--- student 11: 70, 90, 80, 75, Physics 40
-abbrev pub eleven : Student
-eleven = student catalogue (result 0 66 70 (result 1 66 90 (result 2 66 80 (result 3 66 75 (result 5 66 40 []))))) 2021
 
 -- six Generals at 50.00, one an English C
 abbrev pub six : Student
-six = student catalogue2 (result 0 67 50 (result 1 66 50 (three (result 8 66 50 [])))) 2021
+six = student catalogue2 (result 0 letterC 50 (result 1 letterB 50 (three (result 8 letterB 50 [])))) 2021
 
 unfoldable pub examples : List Example
 examples =

@@ -1,7 +1,8 @@
+use Rattle.report.specs.Sizes.{textBytes}
 use Rattle.report.proofs.Promised.{length-fits}
 use lib.Seq.{length-take-le}
-use lib.ListN.{length, take, replicate, length-replicate}
-use mathlib.Core.Path.{_≡_, sym, ap, _∙_}
+use lib.ListN.{length, replicate, length-replicate}
+use mathlib.Core.Path.{_≡_, sym, _∙_}
 use Prim.Native.Nat.{ℕ, _≤_}
 use native.Mathlib.Omega.{arith}
 use borrow.Author.Needs.{needs}
@@ -19,19 +20,19 @@ report-requires c κs = search needs
 enum-known-answer : tie.Need-enum-known-answer
 enum-known-answer c = search needs
 
+-- the length that is told fits the text
+within : (c : tie.After-known-told) → c .before .answer .given .0 .0 ≤ length (c .before .before .before .before .report .last .1 .0)
+within c =
+    let call = c .before .before .before .before .report in
+    let z = length-replicate {A = ℕ} textBytes 0 in
+    let k : length (call .last .1 .0) ≡ textBytes = call .kept .1 .0 ∙ z in
+    omega (arith, length-fits _ (replicate textBytes 0) (c .before .answer .given .0 .0) z k (call .ensures) (c .before .answer .given .1), k)
+
 array-share-prefix-text : tie.Need-array-share-prefix-text
-array-share-prefix-text c =
-    let z = length-replicate {A = ℕ} 65536 0 in
-    let k : length (c .before .before .before .before .report .last .1 .0) ≡ 65536 = c .before .before .before .before .report .kept .1 .0 ∙ z in
-    let w = length-fits (c .before .before .before .before .before .before .before .args .file .now) (replicate 65536 0) (c .before .before .before .before .report .last .1 .0) (c .before .before .before .before .report .result) (c .before .answer .given .0 .0) z k (c .before .before .before .before .report .ensures) (c .before .answer .given .1) in
-    omega (arith, w, k)
+array-share-prefix-text c = within c
 
 slice-aggregate-write-all : tie.Need-slice-aggregate-write-all
-slice-aggregate-write-all c =
-    let z = length-replicate {A = ℕ} 65536 0 in
-    let k : length (c .before .before .before .before .before .report .last .1 .0) ≡ 65536 = c .before .before .before .before .before .report .kept .1 .0 ∙ z in
-    let w = length-fits (c .before .before .before .before .before .before .before .before .args .file .now) (replicate 65536 0) (c .before .before .before .before .before .report .last .1 .0) (c .before .before .before .before .before .report .result) (c .before .before .answer .given .0 .0) z k (c .before .before .before .before .before .report .ensures) (c .before .before .answer .given .1) in
-    sym (length-take-le (c .before .before .answer .given .0 .0) (c .before .before .before .before .before .report .last .1 .0) (omega (arith, w, k)))
+slice-aggregate-write-all c = sym (length-take-le _ _ (within (c .before)))
 
 write-all-requires : tie.Need-write-all-requires
 write-all-requires c κs = search needs

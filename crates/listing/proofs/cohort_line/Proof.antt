@@ -1,8 +1,12 @@
-use Rattle.listing.proofs.Fits.{cohort-fits}
 use Rattle.listing.proofs.Joining.{written, _then_}
+use Rattle.listing.proofs.Fits.{cohort-fits}
 use borrow.Author.Needs.{needs}
 use Rattle.listing.proofs.cohort_line.Statement.{statement}
 use Rattle.listing.proofs.cohort_line.Tie as tie
+use Rattle.listing.proofs.writing.Line.byte.Reads as byte-reads
+use Rattle.listing.proofs.writing.Line.empty.Reads as empty-reads
+use Rattle.listing.proofs.writing.Line.number.Reads as number-reads
+use Rattle.listing.proofs.writing.Line.text.Reads as text-reads
 
 empty-requires : tie.Need-empty-requires
 empty-requires c κs = search needs
@@ -34,21 +38,13 @@ text-requires-3 c κs = search needs
 number-requires-3 : tie.Need-number-requires-3
 number-requires-3 c κs = search needs
 
-slice-aggregate-text-4 : tie.Need-slice-aggregate-text-4
-slice-aggregate-text-4 c = search needs
-
-text-requires-4 : tie.Need-text-requires-4
-text-requires-4 c κs = search needs
+byte-requires : tie.Need-byte-requires
+byte-requires c κs = search needs
 
 returns : tie.Need-returns
 returns c =
-    let c3 = c .before .before .before in
-    let c2 = c3 .before .before .before in
-    let c1 = c2 .before .before .before in
-    let start = c1 .before .before .before in
-    written (cohort-fits _ _ _ (start .fits .students .fits) (start .fits .eligible .fits) (start .fits .remainder .fits))
-    (c1 .before .before .empty .ensures)
-    (c1 .text .ensures then c2 .before .before .number .ensures then c2 .text2 .ensures then c3 .before .before .number2 .ensures then c3 .text3 .ensures then c .before .before .number3 .ensures then c .text4 .ensures)
+    written (cohort-fits _ _ _ (c .before .before .before .before .before .before .before .before .before .before .before .fits .students .fits) (c .before .before .before .before .before .before .before .before .before .before .before .fits .eligible .fits) (c .before .before .before .before .before .before .before .before .before .before .before .fits .remainder .fits)) (c .before .before .before .before .before .before .before .before .before .before .empty .ensures)
+    (c .before .before .before .before .before .before .before .before .text .ensures then c .before .before .before .before .before .before .before .number .ensures then c .before .before .before .before .before .text2 .ensures then c .before .before .before .before .number2 .ensures then c .before .before .text3 .ensures then c .before .number3 .ensures then c .byte .ensures)
 
 pub cohort-line-spec : {M : Type 1} → statement M
 cohort-line-spec =
@@ -64,6 +60,5 @@ cohort-line-spec =
     slice-aggregate-text-3
     text-requires-3
     number-requires-3
-    slice-aggregate-text-4
-    text-requires-4
+    byte-requires
     returns)

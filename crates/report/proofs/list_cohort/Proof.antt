@@ -3,6 +3,7 @@ use Prim.Native.Nat.{ℕ}
 use mathlib.Core.Path.{sym, subst}
 use mathlib.Core.List.{List}
 use lib.ListN.{length-replicate}
+use Rattle.paper.specs.Limits.{mostStudents}
 use Rattle.report.specs.Report.{outcome, listed}
 use Rattle.report.specs.Inner.{studentsIn, Put}
 use Rattle.report.proofs.Bounded.{collected-placeable}
@@ -20,7 +21,7 @@ slice-aggregate-collect-2 : tie.Need-slice-aggregate-collect-2
 slice-aggregate-collect-2 c = search needs
 
 collect-requires : tie.Need-collect-requires
-collect-requires c κs = (c .before .before .before .before .before .before .before .before .before .pre .0, length-replicate {A = ℕ} 512 0, length-replicate {A = ℕ} 512 0)
+collect-requires c κs = (c .before .before .before .before .before .before .before .before .before .pre .0, length-replicate {A = ℕ} mostStudents 0, length-replicate {A = ℕ} mostStudents 0)
 
 array-share-prefix-marks : tie.Need-array-share-prefix-marks
 array-share-prefix-marks c = search needs
@@ -44,7 +45,7 @@ array-borrow-prefix-ranks c = search needs
 slice-aggregate-list-placed-3 : tie.Need-slice-aggregate-list-placed-3
 slice-aggregate-list-placed-3 c =
     let w = c .before .before .before .before .before .collect .ensures in
-    let z = length-replicate {A = ℕ} 512 0 in
+    let z = length-replicate {A = ℕ} mostStudents 0 in
     sym (length-take-le _ _ (omega (arith, w .within, c .before .before .before .before .before .before .before .before .before .before .before .before .before .before .before .pre .0 .students)))
 
 array-borrow-prefix-percentiles : tie.Need-array-borrow-prefix-percentiles
@@ -53,7 +54,7 @@ array-borrow-prefix-percentiles c = search needs
 slice-aggregate-list-placed-4 : tie.Need-slice-aggregate-list-placed-4
 slice-aggregate-list-placed-4 c =
     let w = c .before .before .before .before .before .before .collect .ensures in
-    let z = length-replicate {A = ℕ} 512 0 in
+    let z = length-replicate {A = ℕ} mostStudents 0 in
     sym (length-take-le _ _ (omega (arith, w .within, c .before .before .before .before .before .before .before .before .before .before .before .before .before .before .before .before .pre .0 .students)))
 
 array-borrow-prefix-bands : tie.Need-array-borrow-prefix-bands
@@ -62,7 +63,7 @@ array-borrow-prefix-bands c = search needs
 slice-aggregate-list-placed-5 : tie.Need-slice-aggregate-list-placed-5
 slice-aggregate-list-placed-5 c =
     let w = c .before .before .before .before .before .before .before .collect .ensures in
-    let z = length-replicate {A = ℕ} 512 0 in
+    let z = length-replicate {A = ℕ} mostStudents 0 in
     sym (length-take-le _ _ (omega (arith, w .within, c .before .before .before .before .before .before .before .before .before .before .before .before .before .before .before .before .before .pre .0 .students)))
 
 list-placed-requires : tie.Need-list-placed-requires

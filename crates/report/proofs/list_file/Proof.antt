@@ -1,8 +1,8 @@
+use Rattle.paper.specs.Limits.{entryBytes, rowBytes, mostSubjects}
 use Rattle.report.proofs.Puts.{shows-own}
 use Rattle.report.proofs.Filed.{refused-text, Taken, Lent, zeros, zeros-lent, taken, few-subjects, lent, few, enough, populated, accepted-text}
 use Rattle.report.specs.Inner.{Put}
 use Rattle.cohort.specs.Promise.{Values, said, Buffers, buffers}
-use Rattle.subjects.specs.Scores.{rowBytes}
 use lib.Seq.{length-take-le}
 use mathlib.Core.Path.{sym, ap, subst, _∙_}
 use Prim.Native.Nat.{_*_, _≤_}
@@ -28,7 +28,7 @@ left c =
 told : (c : tie.After-known-told2) → Taken (c .before .before .before .before .before .before .before .before .before .before .before .before .args .file .now) zeros (left c) (values c)
 told c = taken _ zeros (c .before .before .before .read .result) (left c) (values c) (ap said (c .before .read3 .given .1)) (c .before .before .before .read .ensures)
 
-subjects-few : (c : tie.After-known-told2) → values c .subjects ≤ 64
+subjects-few : (c : tie.After-known-told2) → values c .subjects ≤ mostSubjects
 subjects-few c = few-subjects _ zeros (left c) (values c) zeros-lent (told c)
 
 long : (c : tie.After-known-told2) → Lent (left c)
@@ -59,7 +59,7 @@ array-share-prefix-catalogue : tie.Need-array-share-prefix-catalogue
 array-share-prefix-catalogue c = omega (arith, subjects-few c, long c .catalogue)
 
 slice-aggregate-list-cohort : tie.Need-slice-aggregate-list-cohort
-slice-aggregate-list-cohort c = sym (length-take-le (5 * values (c .before) .subjects) (left (c .before) .catalogue) (omega (arith, subjects-few (c .before), long (c .before) .catalogue)))
+slice-aggregate-list-cohort c = sym (length-take-le (entryBytes * values (c .before) .subjects) (left (c .before) .catalogue) (omega (arith, subjects-few (c .before), long (c .before) .catalogue)))
 
 array-share-prefix-table : tie.Need-array-share-prefix-table
 array-share-prefix-table c = omega (arith, subjects-few (c .before), long (c .before) .table)

@@ -1,21 +1,23 @@
+use Rattle.paper.specs.Limits.{resultBytes, mostResults}
 use Rattle.report.proofs.Lining.{Far, far-none, far-all, far-inside, far-mark, far-most, far-within, far-more}
 use native.Mathlib.Omega.{arith}
 use Prim.Native.Nat.{ℕ, _+_, _*_, _-_, _≤_}
 use mathlib.Core.Path.{_≡_, refl, sym, subst, _∙_}
 use mathlib.Core.List.{List, [], _++_}
 use lib.ListN.{length}
+use Rattle.listing.specs.Lines.{lineBytes, shown}
 use Rattle.report.specs.Inner.{columns, Put}
 use Rattle.report.proofs.Puts.{put-none, put-more, shows-own, shown-short}
-use Rattle.listing.specs.Lines.{shown}
 use borrow.Author.Needs.{needs}
 use Rattle.report.proofs.lines.lines.Statement.{statement}
 use Rattle.report.proofs.lines.lines.Tie as tie
 use Rattle.report.proofs.lines.line_at.Reads as line-at-reads
 use Rattle.report.proofs.writing.append.Reads as append-reads
 
+-- the first i students are listed, j of them eligible; their results end at a place, their lines at an end
 abbrev Inv-loop : tie.InvT-loop
 Inv-loop catalogue table year students ids counts results marks aggregates ranks percentiles bands text₀ start i₀ place₀ j₀ end₀ text i place j end =
-    (i ≤ students) × (place ≤ 96 * i) × (end ≤ start + 64 * i) × (j ≤ i) × (length text ≡ length text₀)
+    (i ≤ students) × (place ≤ mostResults * resultBytes * i) × (end ≤ start + lineBytes * i) × (j ≤ i) × (length text ≡ length text₀)
     × (sofar : List ℕ) × Put text₀ text start end sofar × Far catalogue table year students ids counts results marks (columns aggregates ranks percentiles bands) i place j sofar
 
 abbrev μ-loop : tie.MeasureT-loop

@@ -1,5 +1,6 @@
+use Rattle.paper.specs.Limits.{resultBytes}
 use Rattle.bestset.proofs.Meeting.{said-only}
-use Rattle.bestset.specs.Counting.{student}
+use Rattle.results.specs.Results.{student}
 use lib.ListN.{take, drop}
 use mathlib.Core.Path.{_≡_}
 use Prim.Native.Nat.{_+_, _*_, _-_}
@@ -30,8 +31,8 @@ best-set-requires c κs = search needs
 returns : tie.Need-returns
 returns c =
     let a = c .before .before .before .before .before .args in
-    let n : 6 * a .count ≡ a .place + 6 * a .count - a .place = omega arith in
-    rw n (said-only (student (a .catalogue .now) (take (a .place + 6 * a .count - a .place) (drop (a .place) (a .results .now))) (a .year)) (a .table .now) (c .best-set .result) (c .best-set .ensures))
+    let n : resultBytes * a .count ≡ a .place + resultBytes * a .count - a .place = omega arith in
+    rw n (said-only (student (a .catalogue .now) (take (a .place + resultBytes * a .count - a .place) (drop (a .place) (a .results .now))) (a .year)) (a .table .now) (c .best-set .ensures))
 
 pub best-at-spec : {M : Type 1} → statement M
 best-at-spec =

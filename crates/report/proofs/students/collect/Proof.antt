@@ -2,6 +2,7 @@ use native.Mathlib.Omega.{arith}
 use Prim.Native.Nat.{_*_, _-_, _≤_}
 use mathlib.Core.Path.{_≡_, ap, _∙_}
 use lib.ListN.{length, length-set}
+use Rattle.paper.specs.Limits.{resultBytes, mostResults, mostStudents}
 use Rattle.bestset.specs.Promise.{said}
 use Rattle.report.proofs.Collecting.{Gathered, gathered-none, gathered-all, gathered-more, mark-most, kept-long}
 use borrow.Author.Needs.{needs}
@@ -11,8 +12,11 @@ use Rattle.report.proofs.students.best_at.Reads as best-at-reads
 use Rattle.report.proofs.students.keep.Reads as keep-reads
 use Rattle.report.proofs.students.mark_of.Reads as mark-of-reads
 
+-- the first i students are collected, and their results end at a place
 abbrev Inv-loop : tie.InvT-loop
-Inv-loop catalogue table year students counts results aggregates₀ marks₀ i₀ place₀ eligible₀ aggregates marks i place eligible = (i ≤ students) × (place ≤ 96 * i) × (eligible ≤ i) × (length aggregates ≡ 512) × (length marks ≡ 512) × Gathered catalogue table year students counts results i place aggregates eligible marks
+Inv-loop catalogue table year students counts results aggregates₀ marks₀ i₀ place₀ eligible₀ aggregates marks i place eligible =
+    (i ≤ students) × (place ≤ mostResults * resultBytes * i) × (eligible ≤ i) × (length aggregates ≡ mostStudents) × (length marks ≡ mostStudents)
+    × Gathered catalogue table year students counts results i place aggregates eligible marks
 
 abbrev μ-loop : tie.MeasureT-loop
 μ-loop catalogue table year students counts results aggregates₀ marks₀ i₀ place₀ eligible₀ aggregates marks i place eligible = students - i

@@ -8,6 +8,7 @@ use borrow.Author.Needs.{needs}
 use Rattle.report.proofs.writing.append.Statement.{statement}
 use Rattle.report.proofs.writing.append.Tie as tie
 
+-- the first i bytes of the line stand in the text
 abbrev Inv-loop : tie.InvT-loop
 Inv-loop text₀ place line n i₀ text i = (i ≤ n) × (length text ≡ length text₀) × (text ≡ paste text₀ place (line .bytes) i)
 

@@ -5,6 +5,7 @@ use borrow.Author.Needs.{needs}
 use Rattle.slips.proofs.pupils.general.Statement.{statement}
 use Rattle.slips.proofs.pupils.general.Tie as tie
 
+-- the table keeps its length
 abbrev Inv-loop : tie.InvT-loop
 Inv-loop table₀ subject slot₀ table slot = length table ≡ length table₀
 

@@ -4,6 +4,7 @@ use borrow.Author.Needs.{needs}
 use Rattle.slips.proofs.slips.atars.Statement.{statement}
 use Rattle.slips.proofs.slips.atars.Tie as tie
 
+-- the first i bands are told
 abbrev Inv-loop : tie.InvT-loop
 Inv-loop bands i₀ i = i ≤ length bands
 

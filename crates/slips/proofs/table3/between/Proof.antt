@@ -3,6 +3,7 @@ use borrow.Author.Needs.{needs}
 use Rattle.slips.proofs.table3.between.Statement.{statement}
 use Rattle.slips.proofs.table3.between.Tie as tie
 
+-- the first i values are written
 abbrev Inv-loop : tie.InvT-loop
 Inv-loop values₀ i₀ values i = i ≤ 51493
 

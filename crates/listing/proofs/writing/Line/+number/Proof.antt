@@ -20,57 +20,32 @@ number-at t = and 0 number-kinds.ps (is 0 number-kinds.ps μ-number t) number.Pr
 abbrev number-below : ℕ → In 0 number-kinds.ps
 number-below t = and 0 number-kinds.ps (falls 0 number-kinds.ps _<_ μ-number t) number.Pre
 
-number-digit-requires : (t : ℕ) → number-lts.Need-digit-requires (
-  digit-reads.Asked,
-  digit-reads.Learnt,
-  number-below t,
-  number.Post,
-) (number-at t) number.Post
-number-digit-requires t c κs = search needs
+abbrev claims : ℕ → number-lts.Claims
+claims t = (digit-reads.Asked, digit-reads.Learnt, number-below t, number.Post)
 
-number-returns : (t : ℕ) → number-lts.Need-returns (
-  digit-reads.Asked,
-  digit-reads.Learnt,
-  number-below t,
-  number.Post,
-) (number-at t) number.Post
-number-returns t c = rw (one-digit (c .before .before .args .n) (c .before .if1 .taken)) (c .digit .ensures)
+module _ (t : ℕ) where
+  number-digit-requires : number-lts.Need-digit-requires (claims t) (number-at t) number.Post
+  number-digit-requires c κs = search needs
 
-number-number-requires : (t : ℕ) → number-lts.Need-number-requires (
-  digit-reads.Asked,
-  digit-reads.Learnt,
-  number-below t,
-  number.Post,
-) (number-at t) number.Post
-number-number-requires t c κs = search needs
+  number-returns : number-lts.Need-returns (claims t) (number-at t) number.Post
+  number-returns c = rw (one-digit (c .before .before .args .n) (c .before .if1 .taken)) (c .digit .ensures)
 
-number-digit-requires-2 : (t : ℕ) → number-lts.Need-digit-requires-2 (
-  digit-reads.Asked,
-  digit-reads.Learnt,
-  number-below t,
-  number.Post,
-) (number-at t) number.Post
-number-digit-requires-2 t c κs = search needs
+  number-number-requires : number-lts.Need-number-requires (claims t) (number-at t) number.Post
+  number-number-requires c κs = search needs
 
-number-returns-2 : (t : ℕ) → number-lts.Need-returns-2 (
-  digit-reads.Asked,
-  digit-reads.Learnt,
-  number-below t,
-  number.Post,
-) (number-at t) number.Post
-number-returns-2 t c = rw (more-digits (c .before .before .before .args .n) (c .before .before .if1 .left)) (c .before .number .ensures then c .digit2 .ensures)
+  number-digit-requires-2 : number-lts.Need-digit-requires-2 (claims t) (number-at t) number.Post
+  number-digit-requires-2 c κs = search needs
+
+  number-returns-2 : number-lts.Need-returns-2 (claims t) (number-at t) number.Post
+  number-returns-2 c = rw (more-digits (c .before .before .before .args .n) (c .before .before .if1 .left)) (c .before .number .ensures then c .digit2 .ensures)
 
 pub +number-spec : {M : Type 1} → statement M
-+number-spec = close μ-number λ t. number-lts.spec (
-  digit-reads.Asked,
-  digit-reads.Learnt,
-  number-below t,
-  number.Post,
-)
-    (number-at t)
-    number.Post
++number-spec =
+    close μ-number
+    (λ t.
+    number-lts.spec (claims t) (number-at t) number.Post
     (number-digit-requires t)
     (number-returns t)
     (number-number-requires t)
     (number-digit-requires-2 t)
-    (number-returns-2 t)
+    (number-returns-2 t))

@@ -1,6 +1,6 @@
 use native.Mathlib.Omega.{arith}
 use borrow.Author.Tests.{lt-ltb, le-ltb}
-use Rattle.listing.specs.Text.{atar}
+use Rattle.listing.specs.Text.{lowBand, atar}
 use borrow.Author.Needs.{needs}
 use Rattle.listing.proofs.writing.Line.atar.Statement.{statement}
 use Rattle.listing.proofs.writing.Line.atar.Tie as tie
@@ -13,7 +13,7 @@ text-requires c κs = search needs
 
 returns : tie.Need-returns
 unfolding atar
-returns c = rw (le-ltb 600 (c .before .before .before .args .band) (omega arith), atar) (c .text .ensures)
+returns c = rw (le-ltb lowBand (c .before .before .before .args .band) (omega arith), atar) (c .text .ensures)
 
 mul-hundredths : tie.Need-mul-hundredths
 mul-hundredths c = search needs
@@ -23,7 +23,7 @@ hundredths-requires c κs = search needs
 
 returns-2 : tie.Need-returns-2
 unfolding atar
-returns-2 c = rw (lt-ltb 600 (c .before .before .args .band) (omega arith), atar) (c .hundredths .ensures)
+returns-2 c = rw (lt-ltb lowBand (c .before .before .args .band) (omega arith), atar) (c .hundredths .ensures)
 
 pub atar-spec : {M : Type 1} → statement M
 atar-spec =

@@ -1,4 +1,4 @@
-use mathlib.Core.Path.{_≡_, _∙_}
+use mathlib.Core.Path.{_∙_}
 use mathlib.Core.List.{[], _∷_}
 use Rattle.listing.proofs.Joining.{with-byte, full-line}
 use borrow.Author.Needs.{needs}

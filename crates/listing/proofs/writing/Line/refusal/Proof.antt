@@ -1,9 +1,14 @@
-use native.Mathlib.Omega.{arith}
-use Rattle.listing.proofs.Joining.{_then_}
 use Rattle.listing.proofs.Fits.{told}
+use Rattle.listing.proofs.Joining.{_then_}
+use native.Mathlib.Omega.{arith}
 use borrow.Author.Needs.{needs}
 use Rattle.listing.proofs.writing.Line.refusal.Statement.{statement}
 use Rattle.listing.proofs.writing.Line.refusal.Tie as tie
+use Rattle.listing.proofs.writing.Line.byte.Reads as byte-reads
+use Rattle.listing.proofs.writing.Line.number.Reads as writing-Line-number-reads
+use Rattle.listing.proofs.writing.Line.text.Reads as text-reads
+use Rattle.paper.proofs.refusal.number.Reads as refusal-number-reads
+use Rattle.paper.proofs.refusal.place.Reads as place-reads
 
 number-requires : tie.Need-number-requires
 number-requires c κs = search needs
@@ -23,28 +28,19 @@ text-requires c κs = search needs
 number-requires-2 : tie.Need-number-requires-2
 number-requires-2 c κs = search needs
 
-slice-aggregate-text-2 : tie.Need-slice-aggregate-text-2
-slice-aggregate-text-2 c = search needs
-
-text-requires-2 : tie.Need-text-requires-2
-text-requires-2 c κs = search needs
+byte-requires : tie.Need-byte-requires
+byte-requires c κs = search needs
 
 number-requires-3 : tie.Need-number-requires-3
 number-requires-3 c κs = search needs
 
-slice-aggregate-text-3 : tie.Need-slice-aggregate-text-3
-slice-aggregate-text-3 c = search needs
-
-text-requires-3 : tie.Need-text-requires-3
-text-requires-3 c κs = search needs
+byte-requires-2 : tie.Need-byte-requires-2
+byte-requires-2 c κs = search needs
 
 returns : tie.Need-returns
 returns c =
-    let c2 = c .before .before .before in
-    let c1 = c2 .before .before .before in
-    let cp = c1 .before .before in
-    told (cp .before .number .ensures) (cp .place .ensures) (omega arith) (omega arith)
-    (c1 .text .ensures then c2 .before .before .number2 .ensures then c2 .text2 .ensures then c .before .before .number3 .ensures then c .text3 .ensures)
+    told (c .before .before .before .before .before .before .before .number .ensures) (c .before .before .before .before .before .before .place .ensures) (omega arith) (omega arith)
+    (c .before .before .before .before .text .ensures then c .before .before .before .number2 .ensures then c .before .before .byte .ensures then c .before .number3 .ensures then c .byte2 .ensures)
 
 pub refusal-spec : {M : Type 1} → statement M
 refusal-spec =
@@ -56,9 +52,7 @@ refusal-spec =
     slice-aggregate-text
     text-requires
     number-requires-2
-    slice-aggregate-text-2
-    text-requires-2
+    byte-requires
     number-requires-3
-    slice-aggregate-text-3
-    text-requires-3
+    byte-requires-2
     returns)

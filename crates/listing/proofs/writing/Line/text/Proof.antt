@@ -1,5 +1,6 @@
-use mathlib.Core.Path.{_≡_, sym, _∙_}
-use mathlib.Core.List.{[], _∷_, append-nil}
+-- The text before i is added.
+use mathlib.Core.Path.{_≡_}
+use mathlib.Core.List.{append-nil}
 use native.Mathlib.Omega.{arith}
 use native.Mathlib.Numerals.{add-one}
 use Prim.Native.Nat.{_-_, _≤_, _<_}

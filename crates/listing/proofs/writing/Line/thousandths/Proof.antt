@@ -2,15 +2,15 @@ use Rattle.listing.proofs.Joining.{_then_}
 use borrow.Author.Needs.{needs}
 use Rattle.listing.proofs.writing.Line.thousandths.Statement.{statement}
 use Rattle.listing.proofs.writing.Line.thousandths.Tie as tie
+use Rattle.listing.proofs.writing.Line.byte.Reads as byte-reads
+use Rattle.listing.proofs.writing.Line.digit.Reads as digit-reads
+use Rattle.listing.proofs.writing.Line.number.Reads as number-reads
 
 number-requires : tie.Need-number-requires
 number-requires c κs = search needs
 
-slice-aggregate-text : tie.Need-slice-aggregate-text
-slice-aggregate-text c = search needs
-
-text-requires : tie.Need-text-requires
-text-requires c κs = search needs
+byte-requires : tie.Need-byte-requires
+byte-requires c κs = search needs
 
 digit-requires : tie.Need-digit-requires
 digit-requires c κs = search needs
@@ -22,15 +22,14 @@ digit-requires-3 : tie.Need-digit-requires-3
 digit-requires-3 c κs = search needs
 
 returns : tie.Need-returns
-returns c = c .before .before .before .before .before .number .ensures then c .before .before .before .text .ensures then c .before .before .digit .ensures then c .before .digit2 .ensures then c .digit3 .ensures
+returns c = c .before .before .before .before .number .ensures then c .before .before .before .byte .ensures then c .before .before .digit .ensures then c .before .digit2 .ensures then c .digit3 .ensures
 
 pub thousandths-spec : {M : Type 1} → statement M
 thousandths-spec =
     tie.close
     (tie.spec
     number-requires
-    slice-aggregate-text
-    text-requires
+    byte-requires
     digit-requires
     digit-requires-2
     digit-requires-3

@@ -1,0 +1,82 @@
+use Rattle.bestset.specs.Rules.{resultRules, turnRules}
+use Rattle.results.specs.Results.{student, held, heldIn}
+use Rattle.paper.proofs.Ruled.{Unbroken, all-kept, kept-all, turns-kept, turn-refused}
+use Rattle.paper.specs.Screening.{ruled}
+use Rattle.paper.specs.Rulings.{judged}
+use borrow.Author.Count.{below-more}
+use native.Mathlib.Omega.{arith}
+use mathlib.Core.Path.{_≡_, sym, ap, _∙_}
+use Prim.Native.Nat.{ℕ, _-_, _≤_, _<_}
+use borrow.Author.Needs.{needs}
+use Rattle.bestset.proofs.readable.judge_results.Statement.{statement}
+use Rattle.bestset.proofs.readable.judge_results.Tie as tie
+use Rattle.bestset.proofs.readable.judge_result.Reads as judge-result-reads
+use Rattle.results.proofs.reading.result_at.Reads as result-at-reads
+
+-- the results before i break no rule
+abbrev Inv-loop : tie.InvT-loop
+Inv-loop catalogue table results year i₀ i = (i ≤ heldIn results) × ((j : ℕ) → j < i → Unbroken (resultRules (student catalogue results year) table j))
+
+abbrev μ-loop : tie.MeasureT-loop
+μ-loop catalogue table results year i₀ i = heldIn results - i
+
+-- the result at i is judged by its rules
+judged-here : (c : tie.After-judge-result Inv-loop μ-loop) → let a = c .before .before .before .before .before .before .before .args in
+    ruled (c .judge-result .result) ≡ judged (resultRules (student (a .catalogue .now) (a .results .now) (a .year)) (a .table .now) (c .before .before .before .loop .i)) tt
+judged-here c = rw (c .before .result-at .ensures) at (c .judge-result .ensures)
+
+loop-holds : tie.Need-loop-holds Inv-loop μ-loop
+loop-holds c = (omega arith, λ j l. absurd (omega arith))
+
+result-at-requires : tie.Need-result-at-requires Inv-loop μ-loop
+result-at-requires c κs = search needs
+
+judge-result-requires : tie.Need-judge-result-requires Inv-loop μ-loop
+judge-result-requires c κs = search needs
+
+enum-known-verdict : tie.Need-enum-known-verdict Inv-loop μ-loop
+enum-known-verdict c = search needs
+
+returns : tie.Need-returns Inv-loop μ-loop
+returns c =
+    let a = c .before .before .before .before .before .before .before .before .before .before .args in
+    let rules = resultRules (student (a .catalogue .now) (a .results .now) (a .year)) (a .table .now) in
+    sym (turn-refused _ rules tt tt _ _ (omega arith) (c .before .before .before .before .before .before .loop .inv .1) (sym (judged-here (c .before .before .before)) ∙ ap ruled (c .before .verdict .given .1)))
+
+enum-told : tie.Need-enum-told Inv-loop μ-loop
+enum-told c = search needs
+
+add-i : tie.Need-add-i Inv-loop μ-loop
+add-i c = search needs
+
+loop-less : tie.Need-loop-less Inv-loop μ-loop
+loop-less c = search needs
+
+loop-again : tie.Need-loop-again Inv-loop μ-loop
+loop-again c =
+    let a = c .before .before .before .before .before .before .before .before .before .args in
+    let rules = resultRules (student (a .catalogue .now) (a .results .now) (a .year)) (a .table .now) in
+    (omega arith, below-more _ _ (c .before .before .before .before .before .loop .inv .1) (all-kept (rules (c .before .before .before .before .before .loop .i)) tt tt (sym (judged-here (c .before .before)) ∙ ap ruled (c .enum-told .given .1))))
+
+returns-2 : tie.Need-returns-2 Inv-loop μ-loop
+returns-2 c =
+    let a = c .before .before .before .before .before .args in
+    let s = student (a .catalogue .now) (a .results .now) (a .year) in
+    sym (kept-all (turnRules s (a .table .now)) tt (turns-kept (held s) (resultRules s (a .table .now)) (λ j l. c .before .loop .inv .1 j (omega arith))))
+
+pub judge-results-spec : {M : Type 1} → statement M
+judge-results-spec =
+    tie.close
+    (tie.spec
+    Inv-loop
+    μ-loop
+    loop-holds
+    result-at-requires
+    judge-result-requires
+    enum-known-verdict
+    returns
+    enum-told
+    add-i
+    loop-less
+    loop-again
+    returns-2)

@@ -1,0 +1,100 @@
+-- Students worked by hand: their catalogues, score tables and results.
+use Prim.Native.Nat.{ℕ, zero, suc, _*_, _/_, _%_}
+use mathlib.Core.List.{List, [], _∷_, _++_}
+use Rattle.paper.specs.Words.{_=?_, if_then_else_}
+use Rattle.paper.specs.Letters.{letterA, letterB, letterC}
+use Rattle.paper.specs.Limits.{missing}
+use Rattle.results.specs.Results.{Student, student}
+
+-- a row of n slots from slot k on, by what each holds
+unfoldable pub slots : ℕ → ℕ → (ℕ → ℕ) → List ℕ
+slots zero k f = []
+slots (suc n) k f = f k / 256 ∷ f k % 256 ∷ slots n (suc k) f
+
+-- General slot j scores j.00; an Applied row has one score, the others are missing
+abbrev pub generalRow : List ℕ
+generalRow = slots 100 1 (λ j. 100 * j)
+
+abbrev pub oneScore : ℕ → ℕ → List ℕ
+oneScore slot score = slots 100 1 (λ j. if j =? slot then score else missing)
+
+-- English, Methods, Biology, Chemistry, Essential Mathematics (Applied), Physics, Hospitality (Applied)
+abbrev pub catalogue : List ℕ
+catalogue =
+    1 ∷ 1 ∷ 0 ∷ 0 ∷ 1
+    ∷ 1 ∷ 2 ∷ 0 ∷ 0 ∷ 2
+    ∷ 1 ∷ 0 ∷ 0 ∷ 0 ∷ 3
+    ∷ 1 ∷ 0 ∷ 0 ∷ 0 ∷ 4
+    ∷ 4 ∷ 2 ∷ 0 ∷ 0 ∷ 0
+    ∷ 1 ∷ 0 ∷ 0 ∷ 0 ∷ 5
+    ∷ 4 ∷ 0 ∷ 0 ∷ 0 ∷ 0
+    ∷ []
+
+abbrev pub table : List ℕ
+table =
+    generalRow
+    ++ (generalRow
+    ++ (generalRow
+    ++ (generalRow
+    ++ (oneScore 90 9500
+    ++ (generalRow
+    ++ oneScore 70 6000)))))
+
+-- a result of 2021: letter B and a number for a General, a letter for an Applied
+abbrev pub result : ℕ → ℕ → ℕ → List ℕ → List ℕ
+result subject letter number rest = 0 ∷ subject ∷ letter ∷ number ∷ 7 ∷ 229 ∷ rest
+
+-- English, Methods, Biology, Chemistry, Essential Mathematics A, and more
+abbrev pub with : ℕ → ℕ → ℕ → ℕ → List ℕ → List ℕ
+with e m b c more = result 0 letterB e (result 1 letterB m (result 2 letterB b (result 3 letterB c (result 4 letterA 0 more))))
+
+-- student 7 has Physics 40, student 8 Hospitality B, student 11 Physics 40 and no Essential Mathematics
+abbrev pub seven : Student
+seven = student catalogue (with 70 90 80 75 (result 5 letterB 40 [])) 2021
+
+abbrev pub eight : Student
+eight = student catalogue (with 50 90 80 75 (result 6 letterB 0 [])) 2021
+
+abbrev pub nine : Student
+nine = student catalogue (with 70 60 80 75 []) 2021
+
+abbrev pub eleven : Student
+eleven = student catalogue (result 0 letterB 70 (result 1 letterB 90 (result 2 letterB 80 (result 3 letterB 75 (result 5 letterB 40 []))))) 2021
+
+-- English, Biology, its external examination, Chemistry, Physics, Geography, a Certificate III, a Certificate II, and History
+abbrev pub catalogue2 : List ℕ
+catalogue2 =
+    1 ∷ 1 ∷ 0 ∷ 0 ∷ 1
+    ∷ 1 ∷ 0 ∷ 0 ∷ 0 ∷ 2
+    ∷ 3 ∷ 0 ∷ 0 ∷ 0 ∷ 2
+    ∷ 1 ∷ 0 ∷ 0 ∷ 0 ∷ 3
+    ∷ 1 ∷ 0 ∷ 0 ∷ 0 ∷ 4
+    ∷ 1 ∷ 0 ∷ 0 ∷ 0 ∷ 5
+    ∷ 6 ∷ 0 ∷ 3 ∷ 0 ∷ 0
+    ∷ 6 ∷ 0 ∷ 2 ∷ 0 ∷ 0
+    ∷ 1 ∷ 0 ∷ 0 ∷ 0 ∷ 6
+    ∷ []
+
+abbrev pub table2 : List ℕ
+table2 =
+    generalRow
+    ++ (generalRow
+    ++ (generalRow
+    ++ (generalRow
+    ++ (generalRow
+    ++ (generalRow
+    ++ (oneScore 1 7000
+    ++ (oneScore 1 7000
+    ++ generalRow)))))))
+
+-- a General result with its letter, number and year
+abbrev pub dated : ℕ → ℕ → ℕ → ℕ → List ℕ → List ℕ
+dated subject letter number year rest = 0 ∷ subject ∷ letter ∷ number ∷ year / 256 ∷ year % 256 ∷ rest
+
+-- Chemistry, Physics and Geography at 50, and more
+abbrev pub three : List ℕ → List ℕ
+three more = result 3 letterB 50 (result 4 letterB 50 (result 5 letterB 50 more))
+
+-- English 10, and five better Generals: it needn't be in the five
+abbrev pub english10 : List ℕ
+english10 = result 0 letterC 10 (result 1 letterB 50 (three (result 8 letterB 50 [])))

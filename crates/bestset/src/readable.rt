@@ -1,0 +1,150 @@
+// Whether a student's results can be read: nothing before 6 refuses.
+ghost use mathlib.Core.Path.{_≡_};
+ghost use Prim.Native.Nat.{_≤_};
+ghost use Rattle.paper.specs.Limits.{mostSubjects};
+ghost use Rattle.paper.specs.Rulings.{judged};
+ghost use Rattle.paper.specs.Screening.{ruled};
+ghost use Rattle.catalogue.specs.Catalogue.{subjects};
+ghost use Rattle.scores.specs.Promise.{looked};
+ghost use Rattle.results.specs.Results.{student};
+ghost use Rattle.bestset.specs.Rules.{gradeFits, wrong, isScore, unscored, inputRules, turnRules};
+ghost use Rattle.bestset.specs.InnerJudging.{rulesOf, readRules};
+use catalogue::kinds;
+use paper::limits::ENTRY_BYTES;
+use paper::limits::FIRST_YEAR;
+use paper::limits::LEAST_YEAR;
+use paper::limits::MOST_RESULTS;
+use paper::limits::MOST_YEAR;
+use paper::limits::RESULT_BYTES;
+use paper::limits::ROW_BYTES;
+use paper::limits::SLOTS;
+use paper::ranges;
+use paper::refusal::Refusal;
+use paper::screening::Verdict;
+use paper::widening::wide8;
+use paper::widening::wide16;
+use results::counting;
+use results::reading;
+use results::reading::Result;
+use results::scoring;
+use scores::slots::Slot;
+
+// Whether letter and number fit the kind.
+fn grade_fits(result: Result) -> bool
+    ensures { λ r. ⌜ r ≡ gradeFits result ⌝ }
+{
+    let kind = result.entry.kind;
+    let letter = result.letter;
+    let number = result.number;
+    if kinds::is_vet(kind) {
+        if letter == b'Y' {
+            return number == 0;
+        }
+        return letter == b'N' && number == 0;
+    }
+    if !ranges::within(b'A' as u64, b'E' as u64, wide8(letter)) {
+        return false;
+    }
+    if kinds::is_general(kind) {
+        return ranges::within(1, SLOTS as u64, wide8(number));
+    }
+    number == 0
+}
+
+// Whether letter, number or year is wrong for the kind.
+fn wrong(result: Result, year: u64) -> bool
+    ensures { λ r. ⌜ r ≡ wrong year result ⌝ }
+{
+    if !grade_fits(result) {
+        return true;
+    }
+    !ranges::within(FIRST_YEAR, year, wide16(result.year))
+}
+
+fn is_score(slot: Slot) -> bool
+    ensures { λ r. ⌜ r ≡ isScore (looked slot) ⌝ }
+{
+    match slot {
+        Slot::Score(_) => true,
+        Slot::Missing => false,
+        Slot::Over => false,
+    }
+}
+
+// Whether a usable result has a missing slot or one over the greatest score.
+fn unscored(table: &[u8], result: Result, year: u64) -> bool
+    ensures { λ r. ⌜ r ≡ unscored (now (table .entry)) year result ⌝ }
+{
+    if !counting::usable(result, year) {
+        return false;
+    }
+    !is_score(scoring::slot_of(table, result))
+}
+
+// 3, 4, 5 of a result at a place, where there are so many subjects.
+fn judge_result(subjects: usize, table: &[u8], year: u64, result: Result, place: usize) -> Verdict
+    ensures { λ r. ⌜ ruled r ≡ judged (rulesOf subjects (now (table .entry)) year result place) tt ⌝ }
+{
+    if subjects <= result.subject as usize {
+        return Verdict::Refused(Refusal::WrongSubject(place));
+    }
+    if wrong(result, year) {
+        return Verdict::Refused(Refusal::WrongResult(place));
+    }
+    if unscored(table, result, year) {
+        return Verdict::Refused(Refusal::WrongScore(place));
+    }
+    Verdict::Clear
+}
+
+// 3, 4, 5 of each result in turn.
+fn judge_results(catalogue: &[u8], table: &[u8], results: &[u8], year: u64) -> Verdict
+    ensures { λ r. ⌜ ruled r ≡ judged (turnRules (student (now (catalogue .entry)) (now (results .entry)) year) (now (table .entry))) tt ⌝ }
+{
+    let mut i: usize = 0;
+    while i < results.len() / RESULT_BYTES {
+        let result = reading::result_at(catalogue, results, i);
+        let verdict = judge_result(catalogue.len() / ENTRY_BYTES, table, year, result, i);
+        if let Verdict::Refused(x) = verdict {
+            return Verdict::Refused(x);
+        }
+        i += 1;
+    }
+    Verdict::Clear
+}
+
+// 11, 14, and 1 and 2 of the results, for a catalogue within its limit.
+fn judge_input(catalogue: &[u8], table: &[u8], results: &[u8], year: u64) -> Verdict
+    requires { ⌜ subjects (now catalogue) ≤ mostSubjects ⌝ }
+    ensures { λ r. ⌜ ruled r ≡ judged (inputRules (student (now (catalogue .entry)) (now (results .entry)) year) (now (table .entry))) tt ⌝ }
+{
+    if table.len() != ROW_BYTES * (catalogue.len() / ENTRY_BYTES) {
+        return Verdict::Refused(Refusal::WrongLength);
+    }
+    if !ranges::within(LEAST_YEAR, MOST_YEAR, year) {
+        return Verdict::Refused(Refusal::WrongYear(0));
+    }
+    let held = results.len() / RESULT_BYTES;
+    if results.len() % RESULT_BYTES != 0 {
+        return Verdict::Refused(Refusal::Malformed(held));
+    }
+    if MOST_RESULTS < held {
+        return Verdict::Refused(Refusal::TooMany(MOST_RESULTS));
+    }
+    Verdict::Clear
+}
+
+// All of it, in the paper's order.
+pub(crate) fn judge(catalogue: &[u8], table: &[u8], results: &[u8], year: u64) -> Verdict
+    ensures { λ r. ⌜ ruled r ≡ judged (readRules (student (now (catalogue .entry)) (now (results .entry)) year) (now (table .entry))) tt ⌝ }
+{
+    let screened = catalogue::screen(catalogue);
+    if let Verdict::Refused(x) = screened {
+        return Verdict::Refused(x);
+    }
+    let lengths = judge_input(catalogue, table, results, year);
+    if let Verdict::Refused(x) = lengths {
+        return Verdict::Refused(x);
+    }
+    judge_results(catalogue, table, results, year)
+}

@@ -1,0 +1,4 @@
+pub mod ByHand
+pub mod Promised
+pub mod Ranges
+pub mod Read

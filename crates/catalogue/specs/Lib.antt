@@ -1,0 +1,4 @@
+pub mod Kinds
+pub mod Catalogue
+pub mod Promise
+pub mod Meaning

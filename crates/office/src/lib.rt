@@ -1,0 +1,1 @@
+// The office's example file and its listing, as one theorem.

@@ -1,0 +1,160 @@
+-- Laws of clearing a row and storing a score, by what is found in the slots.
+use Prim.Native.Nat.{ℕ, _+_, _*_, _<_, _≤_}
+use native.Mathlib.Omega.{arith}
+use native.Mathlib.Decide.{decLt}
+use mathlib.Core.Path.{_≡_, refl, sym, ap, _∙_}
+use mathlib.Core.Bool.{Bool, true, false}
+use mathlib.Core.Logic.{_⊎_, inl, inr, ⊎-elim}
+use mathlib.Core.List.{List}
+use lib.ListN.{length, getD-replicate}
+use lib.Dec.{ltb, eqb}
+use borrow.Author.Tests.{ltb-false, ne-eqb, le-ltb}
+use Rattle.paper.specs.Limits.{slotBytes, rowBytes, missing, topScore, missingByte}
+use Rattle.paper.specs.Lists.{pick}
+use Rattle.paper.specs.Bytes.{byte, word, wordBytes}
+use Rattle.paper.proofs.Parted.{length-laid, laid-off}
+use Rattle.paper.proofs.Written.{length-word, word-laid, word-in, word-off}
+use Rattle.scores.specs.Scores.{rows, hasSlot, inRow, slotAt, slotValue, scaled, absent, tooHigh, valued, found}
+use Rattle.scores.specs.Rows.{missingRow, cleared, stored}
+use Rattle.scores.specs.Meaning.{OffRow}
+use Rattle.scores.proofs.Rowed.{slot-there, slot-same, length-missing, cleared-row, cleared-none, stored-slot, stored-none, off-row, off-slot}
+
+-- what is found where there is a slot, and where there is none
+module _ (table : List ℕ) (subject slot : ℕ) where
+  pub found-there : hasSlot table subject slot ≡ true → found table subject slot ≡ valued (word table (slotAt subject slot))
+  unfolding found
+  found-there e = ap (λ (b : Bool). valued (pick b (word table (slotAt subject slot)) missing)) e
+
+  pub found-none : hasSlot table subject slot ≡ false → found table subject slot ≡ absent
+  unfolding found
+  found-none e = ap (λ (b : Bool). valued (pick b (word table (slotAt subject slot)) missing)) e
+
+-- what is found as a score is at most the greatest
+valued-within : (value v : ℕ) → valued value ≡ scaled v → v ≤ topScore
+valued-within value v = go (eqb value missing) (ltb topScore value) (ltb-false topScore value)
+  where
+    go : (a b : Bool) → (b ≡ false → value ≤ topScore) → pick a absent (pick b tooHigh (scaled value)) ≡ scaled v → v ≤ topScore
+    go true b f e = absurd (let z : _≡_ {A = ℕ} 0 1 = cc in omega arith)
+    go false true f e = absurd (let z : _≡_ {A = ℕ} 0 1 = cc in omega arith)
+    go false false f e = let z : value ≡ v = cc in omega (arith, f refl)
+
+pub found-within : (table : List ℕ) (subject slot v : ℕ) → found table subject slot ≡ scaled v → v ≤ topScore
+unfolding found
+found-within table subject slot v e = valued-within (slotValue table subject slot) v e
+
+-- tables of one length, with the same bytes in a slot
+found-same : (t u : List ℕ) (subject slot : ℕ) → length t ≡ length u
+    → (hasSlot u subject slot ≡ true → word t (slotAt subject slot) ≡ word u (slotAt subject slot)) → found t subject slot ≡ found u subject slot
+found-same t u subject slot l w = go (hasSlot u subject slot) refl (slot-same t u subject slot l)
+  where
+    go : (b : Bool) → hasSlot u subject slot ≡ b → hasSlot t subject slot ≡ hasSlot u subject slot → found t subject slot ≡ found u subject slot
+    go true e same = found-there t subject slot (same ∙ e) ∙ ap valued (w e) ∙ sym (found-there u subject slot e)
+    go false e same = found-none t subject slot (same ∙ e) ∙ sym (found-none u subject slot e)
+
+-- a cleared row: the length stays, and no byte outside the row changes
+pub length-cleared : (table : List ℕ) (subject : ℕ) → length (cleared table subject) ≡ length table
+length-cleared table subject = go (decLt subject (rows table))
+  where
+    go : Dec (subject < rows table) → length (cleared table subject) ≡ length table
+    go (yes h) = ap length (cleared-row table subject h) ∙ length-laid table (rowBytes * subject) missingRow (omega (arith, length-missing))
+    go (no h) = ap length (cleared-none table subject (omega arith))
+
+pub cleared-off : (table : List ℕ) (subject k : ℕ) → OffRow subject k → byte (cleared table subject) k ≡ byte table k
+cleared-off table subject k u = go (decLt subject (rows table))
+  where
+    go : Dec (subject < rows table) → byte (cleared table subject) k ≡ byte table k
+    go (yes h) =
+        ap (λ (z : List ℕ). byte z k) (cleared-row table subject h)
+        ∙ laid-off table (rowBytes * subject) missingRow (omega arith) k (⊎-elim inl (λ g. inr (omega (arith, length-missing))) u)
+    go (no h) = ap (λ (z : List ℕ). byte z k) (cleared-none table subject (omega arith))
+
+-- a slot of a row with every slot missing
+pub missing-word : (k : ℕ) → k + slotBytes ≤ rowBytes → word missingRow k ≡ missing
+unfolding word
+missing-word k h =
+    let high = getD-replicate {A = ℕ} rowBytes k missingByte 0 (omega arith) in
+    let low = getD-replicate {A = ℕ} rowBytes (k + 1) missingByte 0 (omega arith) in
+    omega arith
+
+-- every slot of the row is missing, and every other slot is as it was
+pub found-cleared : (table : List ℕ) (subject slot : ℕ) → found (cleared table subject) subject slot ≡ absent
+found-cleared table subject slot = go (hasSlot (cleared table subject) subject slot) refl
+  where
+    go : (b : Bool) → hasSlot (cleared table subject) subject slot ≡ b → found (cleared table subject) subject slot ≡ absent
+    go false e = found-none (cleared table subject) subject slot e
+    go true e =
+        let h = slot-there (cleared table subject) subject slot e in
+        let r : subject < rows table = omega (arith, length-cleared table subject) in
+        let w =
+        ap (λ (z : List ℕ). word z (slotAt subject slot)) (cleared-row table subject r)
+        ∙ word-in table (rowBytes * subject) missingRow (inRow slot) (omega arith) (omega (arith, length-missing))
+        ∙ missing-word (inRow slot) (omega arith) in
+        found-there (cleared table subject) subject slot e ∙ ap valued w
+
+pub cleared-other : (table : List ℕ) (subject other slot : ℕ) → (other ≡ subject → ⊥) → found (cleared table subject) other slot ≡ found table other slot
+cleared-other table subject other slot n = go (decLt subject (rows table))
+  where
+    go : Dec (subject < rows table) → found (cleared table subject) other slot ≡ found table other slot
+    go (no h) = ap (λ (z : List ℕ). found z other slot) (cleared-none table subject (omega arith))
+    go (yes r) =
+        found-same (cleared table subject) table other slot (length-cleared table subject)
+        (λ e.
+        let h = slot-there table other slot e in
+        ap (λ (z : List ℕ). word z (slotAt other slot)) (cleared-row table subject r)
+        ∙ word-off table (rowBytes * subject) missingRow (slotAt other slot) (omega arith)
+        (⊎-elim inl (λ g. inr (omega (arith, length-missing))) (off-row subject other slot n (h .1) (h .2))))
+
+-- a stored score: the length stays, and no byte but the slot's two changes
+module _ (table : List ℕ) (subject slot score : ℕ) where
+  pub length-stored : length (stored table subject slot score) ≡ length table
+  length-stored = go (hasSlot table subject slot) refl
+    where
+      go : (b : Bool) → hasSlot table subject slot ≡ b → length (stored table subject slot score) ≡ length table
+      go true e =
+          let h = slot-there table subject slot e in
+          ap length (stored-slot table subject slot score e) ∙ length-laid table (slotAt subject slot) (wordBytes score) (omega (arith, length-word score))
+      go false e = ap length (stored-none table subject slot score e)
+
+  pub stored-byte : (k : ℕ) → (k < slotAt subject slot) ⊎ (slotAt subject slot + slotBytes ≤ k) → byte (stored table subject slot score) k ≡ byte table k
+  stored-byte k u = go (hasSlot table subject slot) refl
+    where
+      go : (b : Bool) → hasSlot table subject slot ≡ b → byte (stored table subject slot score) k ≡ byte table k
+      go true e =
+          let h = slot-there table subject slot e in
+          ap (λ (z : List ℕ). byte z k) (stored-slot table subject slot score e)
+          ∙ laid-off table (slotAt subject slot) (wordBytes score) (omega arith) k (⊎-elim inl (λ g. inr (omega (arith, length-word score))) u)
+      go false e = ap (λ (z : List ℕ). byte z k) (stored-none table subject slot score e)
+
+  pub stored-off : (k : ℕ) → OffRow subject k → byte (stored table subject slot score) k ≡ byte table k
+  stored-off k u = go (hasSlot table subject slot) refl
+    where
+      go : (b : Bool) → hasSlot table subject slot ≡ b → byte (stored table subject slot score) k ≡ byte table k
+      go true e = let h = slot-there table subject slot e in stored-byte k (⊎-elim (λ g. inl (omega arith)) (λ g. inr (omega arith)) u)
+      go false e = ap (λ (z : List ℕ). byte z k) (stored-none table subject slot score e)
+
+  -- the slot holds the score
+  pub stored-word : hasSlot table subject slot ≡ true → word (stored table subject slot score) (slotAt subject slot) ≡ score
+  stored-word e =
+      let h = slot-there table subject slot e in
+      ap (λ (z : List ℕ). word z (slotAt subject slot)) (stored-slot table subject slot score e) ∙ word-laid table (slotAt subject slot) score (omega arith)
+
+  pub found-stored : hasSlot table subject slot ≡ true → score ≤ topScore → found (stored table subject slot score) subject slot ≡ scaled score
+  found-stored e g =
+      let there = slot-same (stored table subject slot score) table subject slot length-stored ∙ e in
+      let n : score ≡ missing → ⊥ = λ x. omega arith in
+      found-there (stored table subject slot score) subject slot there ∙ ap valued (stored-word e) ∙ simp (ne-eqb _ _ n, le-ltb _ _ g)
+
+  -- and every other slot of any row is as it was
+  pub stored-other : (other number : ℕ) → ((other ≡ subject) × (number ≡ slot) → ⊥) → found (stored table subject slot score) other number ≡ found table other number
+  stored-other other number n = go (hasSlot table subject slot) refl
+    where
+      go : (b : Bool) → hasSlot table subject slot ≡ b → found (stored table subject slot score) other number ≡ found table other number
+      go false e = ap (λ (z : List ℕ). found z other number) (stored-none table subject slot score e)
+      go true e =
+          let g = slot-there table subject slot e in
+          found-same (stored table subject slot score) table other number length-stored
+          (λ f.
+          let h = slot-there table other number f in
+          ap (λ (z : List ℕ). word z (slotAt other number)) (stored-slot table subject slot score e)
+          ∙ word-off table (slotAt subject slot) (wordBytes score) (slotAt other number) (omega arith)
+          (⊎-elim inl (λ k. inr (omega (arith, length-word score))) (off-slot subject other slot number n (g .1) (g .2) (h .1) (h .2))))

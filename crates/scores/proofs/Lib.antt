@@ -1,0 +1,5 @@
+pub mod ByHand
+pub mod Filling
+pub mod Promised
+pub mod Rowed
+pub mod Within

@@ -1,0 +1,68 @@
+use Rattle.scores.proofs.Rowed.{slot-there, row-scored, stored-none}
+use Rattle.scores.specs.Scores.{rows, hasSlot}
+use Rattle.paper.specs.Limits.{slots}
+use Prim.Native.Nat.{_<_, _≤_}
+use native.Mathlib.Omega.{arith}
+use mathlib.Core.Bool.{true}
+use mathlib.Core.Path.{_≡_, sym, _∙_}
+use borrow.Author.Needs.{needs}
+use Rattle.scores.proofs.rows.store.Statement.{statement}
+use Rattle.scores.proofs.rows.store.Tie as tie
+use Rattle.paper.proofs.bytes.put_word.Reads as put-word-reads
+use Rattle.scores.proofs.slots.has_slot.Reads as has-slot-reads
+use Rattle.scores.proofs.slots.in_row.Reads as in-row-reads
+
+has : (c : tie.Then1) → hasSlot (c .before .before .before .args .table .now) (c .before .before .before .args .subject) (c .before .before .before .args .raw .0) ≡ true
+has c = sym (c .before .has-slot .ensures) ∙ c .if1 .taken
+
+there : (c : tie.Then1) → (c .before .before .before .args .subject < rows (c .before .before .before .args .table .now)) × (1 ≤ c .before .before .before .args .raw .0) × (c .before .before .before .args .raw .0 ≤ slots)
+there c = slot-there (c .before .before .before .args .table .now) (c .before .before .before .args .subject) (c .before .before .before .args .raw .0) (has c)
+
+has-slot-requires : tie.Need-has-slot-requires
+has-slot-requires c κs = search needs
+
+mul-start : tie.Need-mul-start
+mul-start c = omega (arith, there c .0)
+
+in-row-requires : tie.Need-in-row-requires
+in-row-requires c κs = (there c .1, there c .2)
+
+add-put-word : tie.Need-add-put-word
+add-put-word c = omega (arith, there (c .before) .0)
+
+sub-put-word : tie.Need-sub-put-word
+sub-put-word c = search needs
+
+part-put-word-start : tie.Need-part-put-word-start
+part-put-word-start c = search needs
+
+part-put-word-end : tie.Need-part-put-word-end
+part-put-word-end c = omega (arith, there (c .before) .0)
+
+put-word-requires : tie.Need-put-word-requires
+put-word-requires c κs = search needs
+
+same-length : tie.Need-same-length
+same-length c = search needs
+
+returns : tie.Need-returns
+returns c = row-scored (c .before .before .before .before .before .before .before .before .args .table .now) (c .before .before .before .before .before .before .before .before .args .subject) (c .before .before .put-word .last .0) (c .before .before .before .before .before .before .before .before .args .raw .0) (c .before .before .before .before .before .before .before .before .args .score .0) (has (c .before .before .before .before .before)) (rw (c .before .before .before .before .in-row .ensures .0) at (c .before .before .put-word .ensures))
+
+returns-2 : tie.Need-returns-2
+returns-2 c = sym (stored-none (c .before .before .before .args .table .now) (c .before .before .before .args .subject) (c .before .before .before .args .raw .0) (c .before .before .before .args .score .0) (sym (c .before .has-slot .ensures) ∙ c .if1 .left))
+
+pub store-spec : {M : Type 1} → statement M
+store-spec =
+    tie.close
+    (tie.spec
+    has-slot-requires
+    mul-start
+    in-row-requires
+    add-put-word
+    sub-put-word
+    part-put-word-start
+    part-put-word-end
+    put-word-requires
+    same-length
+    returns
+    returns-2)

@@ -1,0 +1,4 @@
+pub mod Scores
+pub mod Rows
+pub mod Promise
+pub mod Meaning

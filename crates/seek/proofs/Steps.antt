@@ -1,0 +1,364 @@
+-- The steps of the search, over any score and any admissibility. The search goes down in the keys of the sets.
+use Prim.Native.Nat.{ℕ, suc, _+_, _-_, _*_, _/_, _%_, _^_, _≤_, _<_}
+use native.Mathlib.Nat.{mod-lt, le-refl}
+use native.Mathlib.Decide.{decLe}
+use native.Mathlib.Numerals.{add-one}
+use native.Mathlib.Omega.{arith}
+use mathlib.Core.Path.{_≡_, sym, ap, ap₂, _∙_, subst}
+use mathlib.Core.Logic.{_⊎_, inl, inr, ⊎-elim}
+use lib.ListN.{length}
+use lib.Pow.{pow-pos, pow-mono, split, shr-lt}
+use lib.Bits.{bitOr, bitXor, or-shifted-r, xor-block, xor-zero-r}
+use lib.Count.{ones, ones-ones, ones-cat, ones-le}
+use mathlib.Core.List.{List}
+use Rattle.paper.specs.Limits.{members, mostResults, topScore}
+use Rattle.seek.specs.Sets.{bit, In, positions, comesTo}
+use Rattle.seek.specs.InnerTest.{Allowed, Beats, Answers}
+use Rattle.seek.specs.InnerSearch.{Sought, key, room, From, Tried, Before, Stands, Bettered}
+use Rattle.seek.specs.InnerPacking.{valueAt}
+use Rattle.seek.specs.declared.search.Test.{Test}
+use Rattle.seek.specs.declared.search.Lead.{Lead}
+use Rattle.seek.specs.declared.search.Lead.the-variants.{Leading, Nothing}
+use Rattle.seek.proofs.Digits.{high-bit, no-high, all-below, in-lt, in-none, in-joined, low-bit, top-bit, one-shl, comes-most, comes-join, comes-none}
+use Rattle.seek.proofs.Order.{key-lt, key-zero, key-join, key-within, earlier, grown}
+use Rattle.seek.proofs.Meets.{length-set}
+use Rattle.seek.proofs.Tops.{answers-iff, answers-more, answers-same}
+
+-- ---- the admissible sets
+
+-- what the search asks of an admissibility: sets of five of the kept among the results held
+pub record Fives (Adm : ℕ → Type 0) (mask held : ℕ) : Type 0 where
+  pub few : held ≤ mostResults
+  pub below : (t : ℕ) → Adm t → t < 2 ^ held
+  pub five : (t : ℕ) → Adm t → length (positions t) ≡ members
+  pub kept : (t : ℕ) → Adm t → (i : ℕ) → In i t → In i mask
+
+pub fives : (test : Test) {scores : List ℕ} {held : ℕ} → Sought (test .kept) scores held → Fives (Allowed test) (test .kept) held
+fives test {held = held} w =
+    record {
+      few = w .few;
+      below = λ t a. all-below mostResults held t (a .small) (λ i p. w .among i (a .kept i p));
+      five = λ t a. a .five;
+      kept = λ t a. a .kept;
+    }
+
+-- ---- the sets whose key is at least m
+
+under : (m n : ℕ) → (m ≤ n) ⊎ (n < m)
+under m n = go (decLe m n)
+  where
+    go : Dec (m ≤ n) → (m ≤ n) ⊎ (n < m)
+    go (yes h) = inl h
+    go (no h) = inr (omega arith)
+
+module _ (Adm : ℕ → Type 0) (score : ℕ → ℕ) where
+  -- at first no set has been tried
+  tried-none : (m : ℕ) → 2 ^ mostResults ≤ m → Tried Adm score m Nothing
+  tried-none m h t d = let k = key-lt mostResults t in omega arith
+
+  -- sets are passed of which none is admissible
+  tried-lower : (m n : ℕ) (b : Lead) → n ≤ m → ((t : ℕ) → n ≤ key mostResults t → key mostResults t < m → Adm t → ⊥) → Tried Adm score m b → Tried Adm score n b
+  tried-lower m n b h w =
+      answers-iff (From Adm m) (From Adm n) score (λ t d. (omega arith, d .1))
+      (λ t d. ⊎-elim (λ (q : m ≤ key mostResults t). (q, d .1)) (λ (q : key mostResults t < m). absurd (w t (d .0) q (d .1))) (under m (key mostResults t))) b
+
+  -- a set is tried
+  module _ (m s : ℕ) (l : key mostResults s < m) (w : (t : ℕ) → key mostResults s ≤ key mostResults t → key mostResults t < m → Adm t → t ≡ s) where
+    one-more : (t : ℕ) → From Adm (key mostResults s) t → From Adm m t ⊎ (t ≡ s)
+    one-more t d = ⊎-elim (λ (q : m ≤ key mostResults t). inl (q, d .1)) (λ (q : key mostResults t < m). inr (w t (d .0) q (d .1))) (under m (key mostResults t))
+
+    tried-beats : Adm s → (b : Lead) → Beats b (comesTo score s) → Tried Adm score m b → Tried Adm score (key mostResults s) (Leading (comesTo score s) s)
+    tried-beats ok = answers-more (From Adm m) (From Adm (key mostResults s)) score s one-more (le-refl (key mostResults s), ok)
+
+    tried-keeps : ((t : ℕ) → Adm t → length (positions t) ≡ members)
+        → (b : Lead) → (Beats b (comesTo score s) → ⊥) → Tried Adm score m b → Tried Adm score (key mostResults s) b
+    tried-keeps five =
+        answers-same (From Adm m) (From Adm (key mostResults s)) score s one-more (λ t d. (omega arith, d .1))
+        (λ y t c d e.
+        let k = ap (key mostResults) e in
+        let g = c .0 in
+        earlier mostResults 0 y t (five y (c .1) ∙ sym (five t (d .1))) (omega arith))
+
+  -- at last every set has been tried
+  tried-all : (b : Lead) → Tried Adm score 0 b → Answers Adm score b
+  tried-all = answers-iff (From Adm 0) Adm score (λ t d. d .1) (λ t d. (omega arith, d))
+
+-- ---- where the search stands
+
+pub left : ℕ → ℕ → ℕ
+left at set = room at set * 32 + (mostResults - at)
+
+room-start : 2 ^ mostResults ≤ room 0 0
+unfolding room
+room-start = let k = key-zero mostResults in omega arith
+
+room-more : (at set : ℕ) → key mostResults set < room at set
+unfolding room
+room-more at set = let p = pow-pos (mostResults - at) in omega arith
+
+half-room : (at : ℕ) → at < mostResults → 2 ^ (mostResults - at) ≡ 2 ^ (mostResults - suc at) + 2 ^ (mostResults - suc at)
+half-room at h =
+    let e : 2 ^ (mostResults - at) ≡ 2 ^ suc (mostResults - suc at) = ap (λ (n : ℕ). 2 ^ n) (omega arith) in
+    omega arith
+
+pub next : (at set : ℕ) → at < mostResults → set < 2 ^ at → bitOr set (1 * 2 ^ at % 65536) ≡ 1 * 2 ^ at + set
+next at set h l =
+    let o : 2 ^ at ≡ 1 * 2 ^ at = omega arith in
+    ap (bitOr set) (one-shl at h ∙ o) ∙ or-shifted-r 1 at set l
+
+ones-next : (at set : ℕ) → set < 2 ^ at → ones (1 * 2 ^ at + set) ≡ ones set + 1
+ones-next at set l = let c = ones-cat at 1 set l in let o = ones-ones 1 in omega arith
+
+-- the key of a set that a result joined
+key-next : (at set : ℕ) → at < mostResults → set < 2 ^ at → key mostResults (1 * 2 ^ at + set) ≡ room (suc at) set
+unfolding room
+key-next at set h l =
+    let o : 1 * 2 ^ at + set ≡ 2 ^ at + set = omega arith in
+    ap (key mostResults) o ∙ key-join at mostResults set h l
+
+-- every set of the keys that go on from a set with a result has that result
+goes-on : (at set t : ℕ) → at < mostResults → set < 2 ^ at → key mostResults set + 2 ^ (mostResults - suc at) ≤ key mostResults t → key mostResults t < key mostResults set + 2 ^ (mostResults - at) → In at t
+goes-on at set t h l p q =
+    let k = key-join at mostResults set h l in
+    let e = half-room at h in
+    let m : t % 2 ^ suc at ≡ 2 ^ at + set = key-within (suc at) mostResults (2 ^ at + set) t h (omega arith) (omega arith) (omega arith) in
+    let b : bit at t ≡ bit at (t % 2 ^ suc at) =
+    ap (bit at) (sym (split t (suc at))) ∙ low-bit at (suc at) (t / 2 ^ suc at) (t % 2 ^ suc at) (omega arith)
+    in
+    let o : 2 ^ at + set ≡ 1 * 2 ^ at + set = omega arith in
+    b ∙ ap (bit at) (m ∙ o) ∙ top-bit at 1 set l
+
+module _ {mask held at set : ℕ} (h : at < held) (a : Before mask held at set) where
+  join-at : In at mask → Before mask held (suc at) (1 * 2 ^ at + set)
+  join-at b =
+      let l = a .small in
+      record {
+        low = h;
+        small = omega arith;
+        kept = λ i p. ⊎-elim (λ (e : i ≡ at). subst (λ (n : ℕ). In n mask) (sym e) b) (a .kept i) (in-joined at set i l p);
+      }
+
+  skip-at : Before mask held (suc at) set
+  skip-at = let l = a .small in record { low = h; small = omega arith; kept = a .kept }
+
+-- ---- the steps as the code takes them
+
+module _ {Adm : ℕ → Type 0} {score : ℕ → ℕ} {mask held : ℕ} where
+  pub starts : (ones 0 ≤ 3) × Stands Adm score mask held (room 0 0) Nothing 0 0 0
+  starts = (
+    let z = ones-ones 0 in omega arith,
+    record {
+      place = record { low = omega arith; small = omega arith; kept = λ i p. absurd (in-none i p) };
+      worth = comes-none score;
+      tried = tried-none Adm score (room 0 0) room-start;
+    },
+  )
+
+  module _ (fives : Fives Adm mask held) {best : Lead} {at set sum : ℕ} (s : Stands Adm score mask held (room at set) best at set sum) where
+    within : at ≤ mostResults
+    within = let f = fives .few in let l = s .place .low in omega arith
+
+    -- the admissible sets that go on from the set
+    ahead : (t : ℕ) → key mostResults set ≤ key mostResults t → key mostResults t < room at set → t % 2 ^ at ≡ set
+    unfolding room
+    ahead t p q = key-within at mostResults set t within (s .place .small) p q
+
+    -- too few results are left
+    pub short : ones set + held < members + at → Tried Adm score (key mostResults set) best
+    short few =
+        let m = room-more at set in
+        tried-lower Adm score (room at set) (key mostResults set) best (omega arith)
+        (λ t p q d.
+        let l = s .place .low in
+        let k : held ≡ held - at + at = omega arith in
+        let e = ap (λ (n : ℕ). 2 ^ n) k in
+        let b = fives .below t d in
+        let more = ones-le (held - at) (t / 2 ^ at) (shr-lt (held - at) at (omega arith)) in
+        let c = ones-cat at (t / 2 ^ at) (t % 2 ^ at) (mod-lt t (pow-pos at)) in
+        let whole = ap ones (split t at) in
+        let low = ap ones (ahead t p q) in
+        let five = fives .five t d in
+        let w : 2 ^ held ≤ 2 ^ mostResults = pow-mono (fives .few) in
+        let o = length-set t (omega arith) in
+        omega arith) (s .tried)
+
+    -- a set of five is tried
+    module _ (z : members ≤ ones set) where
+      leaf : (t : ℕ) → key mostResults set ≤ key mostResults t → key mostResults t < room at set → Adm t → t ≡ set
+      leaf t p q d =
+          let f = fives .five t d in
+          let b = fives .below t d in
+          let w : 2 ^ held ≤ 2 ^ mostResults = pow-mono (fives .few) in
+          let o = length-set t (omega arith) in
+          grown at set t (ahead t p q) (omega arith)
+
+      pub bettered : {best′ : Lead} → Bettered Adm best set sum best′ → Tried Adm score (key mostResults set) best′
+      bettered (inl (f, e, ok)) =
+          subst (λ (b : Lead). Tried Adm score (key mostResults set) b) (sym (f ∙ ap (λ (x : ℕ). Leading x set) (s .worth)))
+          (tried-beats Adm score (room at set) set (room-more at set) leaf ok best (subst (λ (x : ℕ). Beats best x) (s .worth) e) (s .tried))
+      bettered (inr (f, e)) =
+          let m = room-more at set in
+          subst (λ (b : Lead). Tried Adm score (key mostResults set) b) (sym f)
+          (⊎-elim
+          (λ n.
+          tried-keeps Adm score (room at set) set m leaf (fives .five) best
+          (subst (λ (x : ℕ). Beats best x → ⊥) (s .worth) n) (s .tried))
+          (λ n.
+          tried-lower Adm score (room at set) (key mostResults set) best (omega arith)
+          (λ t p q d. n (subst Adm (leaf t p q d) d)) (s .tried))
+          e)
+
+    module _ (h : at < held) where
+      under-mostResults : at < mostResults
+      under-mostResults = let f = fives .few in omega arith
+
+      -- past result `at`
+      passed : {best′ : Lead} → Tried Adm score (room (suc at) set) best′ → Stands Adm score mask held (room (at + 1) set) best′ (at + 1) set sum
+      passed w = rw (add-one at) (record { place = skip-at h (s .place); worth = s .worth; tried = w })
+
+      -- result `at` is passed over
+      pub skips : bit at mask ≡ 0 → Stands Adm score mask held (room (at + 1) set) best (at + 1) set sum
+      unfolding room
+      skips d =
+          let g = half-room at under-mostResults in
+          passed
+          (tried-lower Adm score (room at set) (room (suc at) set) best (omega arith)
+          (λ t p q a.
+          let i = goes-on at set t under-mostResults (s .place .small) p q in
+          let k = fives .kept t a at i in
+          omega arith) (s .tried))
+
+      module _ (d : In at mask) {set′ : ℕ} (e : set′ ≡ bitOr set (1 * 2 ^ at % 65536)) where
+        set-is : set′ ≡ 1 * 2 ^ at + set
+        set-is = e ∙ next at set under-mostResults (s .place .small)
+
+        pub more : ones set′ ≡ ones set + 1
+        more = ap ones set-is ∙ ones-next at set (s .place .small)
+
+        pub still-kept : (i : ℕ) → In i set′ → In i mask
+        still-kept = rw set-is (join-at h (s .place) d .kept)
+
+        -- it joins
+        pub joins : {sum′ : ℕ} → sum′ ≡ sum + score at → Stands Adm score mask held (room (at + 1) set′) best (at + 1) set′ sum′
+        unfolding room
+        joins f =
+            let t = comes-join score at set under-mostResults (s .place .small) in
+            let w = s .worth in
+            let k = key-next at set under-mostResults (s .place .small) in
+            let g = half-room at under-mostResults in
+            rw (set-is, add-one at) (record {
+              place = join-at h (s .place) d;
+              worth = omega arith;
+              tried = subst (λ (m : ℕ). Tried Adm score m best) (omega arith) (s .tried);
+            })
+
+        -- all that go on from the set with it have been tried
+        pub after : {best′ : Lead} → Tried Adm score (key mostResults set′) best′ → Stands Adm score mask held (room (at + 1) set) best′ (at + 1) set sum
+        after {best′} w = passed (subst (λ (m : ℕ). Tried Adm score m best′) (ap (key mostResults) set-is ∙ key-next at set under-mostResults (s .place .small)) w)
+
+  -- a fifth result joins
+  pub fifth : Fives Adm mask held → {best best′ : Lead} {at set sum set′ sum′ : ℕ} → Stands Adm score mask held (room at set) best at set sum → at < held
+      → In at mask → set′ ≡ bitOr set (1 * 2 ^ at % 65536) → sum′ ≡ sum + score at → ones set ≡ 4 → Bettered Adm best set′ sum′ best′
+      → Stands Adm score mask held (room (at + 1) set) best′ (at + 1) set sum
+  fifth fives s h d e f four b =
+      let o = more fives s h d e in
+      after fives s h d e (bettered fives (joins fives s h d e f) (omega arith) b)
+
+  -- ---- back to the last member
+
+  module _ {best : Lead} {at set sum : ℕ} (s : Stands Adm score mask held (key mostResults set) best at set sum) where
+    module _ (few : held ≤ mostResults) (n : at ≡ 0 → ⊥) where
+      at-is : at ≡ suc (at - 1)
+      at-is = omega arith
+
+      small : set < 2 ^ suc (at - 1)
+      small = subst (λ (k : ℕ). set < 2 ^ k) at-is (s .place .small)
+
+      before : at - 1 < mostResults
+      before = let l = s .place .low in omega arith
+
+      -- back past a result that is no member
+      pub back : bit (at - 1) set ≡ 0 → Stands Adm score mask held (key mostResults set) best (at - 1) set sum
+      back z =
+          let l = s .place .low in
+          record {
+            place = record { low = omega arith; small = no-high (at - 1) set small z; kept = s .place .kept };
+            worth = s .worth;
+            tried = s .tried;
+          }
+
+      -- the last member leaves
+      module _ (b : In (at - 1) set) where
+        cut : set ≡ 1 * 2 ^ (at - 1) + set % 2 ^ (at - 1)
+        cut = sym (split set (at - 1)) ∙ ap (λ (x : ℕ). x * 2 ^ (at - 1) + set % 2 ^ (at - 1)) (high-bit (at - 1) set small ∙ b)
+
+        lower : set % 2 ^ (at - 1) < 2 ^ (at - 1)
+        lower = mod-lt set (pow-pos (at - 1))
+
+        cut-xor : bitXor set (1 * 2 ^ (at - 1) % 65536) ≡ set % 2 ^ (at - 1)
+        cut-xor =
+            let o : 2 ^ (at - 1) ≡ 1 * 2 ^ (at - 1) + 0 = omega arith in
+            let p = pow-pos (at - 1) in
+            ap₂ bitXor cut (one-shl (at - 1) before ∙ o) ∙ xor-block (at - 1) 1 1 (set % 2 ^ (at - 1)) 0 lower (omega arith)
+            ∙ ap (λ (x : ℕ). 0 * 2 ^ (at - 1) + x) (xor-zero-r (set % 2 ^ (at - 1))) ∙ omega arith
+
+        out-total : comesTo score set ≡ comesTo score (set % 2 ^ (at - 1)) + score (at - 1)
+        out-total = ap (comesTo score) cut ∙ comes-join score (at - 1) (set % 2 ^ (at - 1)) before lower
+
+        pub out-most : score (at - 1) ≤ sum
+        out-most = let t = out-total in let w = s .worth in omega arith
+
+        out-room : room (suc (at - 1)) (set % 2 ^ (at - 1)) ≡ key mostResults set
+        out-room = sym (key-next (at - 1) (set % 2 ^ (at - 1)) before lower) ∙ ap (key mostResults) (sym cut)
+
+        pub out-fewer : ones (bitXor set (1 * 2 ^ (at - 1) % 65536)) < ones set
+        out-fewer = rw cut-xor (let o = ones-next (at - 1) (set % 2 ^ (at - 1)) lower in let c = ap ones cut in omega arith)
+
+        pub out : {sum′ : ℕ} → sum′ ≡ sum - score (at - 1)
+            → Stands Adm score mask held (room (at - 1 + 1) (bitXor set (1 * 2 ^ (at - 1) % 65536))) best (at - 1 + 1) (bitXor set (1 * 2 ^ (at - 1) % 65536)) sum′
+        out f =
+            let t = out-total in
+            let w = s .worth in
+            let l = s .place .low in
+            let p = lower in
+            rw (cut-xor, add-one (at - 1)) (record {
+              place = record {
+                low = omega arith;
+                small = omega arith;
+                kept = λ i p. s .place .kept i (ap (bit i) cut ∙ low-bit i (at - 1) 1 (set % 2 ^ (at - 1)) (in-lt (at - 1) (set % 2 ^ (at - 1)) i lower p) ∙ p);
+              };
+              worth = omega arith;
+              tried = subst (λ (m : ℕ). Tried Adm score m best) (sym out-room) (s .tried);
+            })
+
+        -- less is left
+        pub out-less : (at₀ set₀ : ℕ) → set ≡ set₀ → left (at - 1 + 1) (bitXor set (1 * 2 ^ (at - 1) % 65536)) < left at₀ set₀
+        unfolding left
+        out-less at₀ set₀ e =
+            rw (cut-xor, add-one (at - 1)) (let r = out-room in let m = room-more at₀ set₀ in let k = ap (key mostResults) e in omega arith)
+
+    -- back at the first result every set has been tried
+    pub finish : at ≡ 0 → Answers Adm score best
+    finish e =
+        let l : set < 2 ^ 0 = rw e at (s .place .small) in
+        let z : set ≡ 0 = omega arith in
+        let k : key mostResults set ≡ 0 = ap (key mostResults) z ∙ key-zero mostResults in
+        tried-all Adm score best (subst (λ (m : ℕ). Tried Adm score m best) k (s .tried))
+
+-- a sum and a score more fit
+pub sum-fits : {Adm : ℕ → Type 0} {mask held m : ℕ} {scores : List ℕ} {best : Lead} {at set sum : ℕ} → Sought mask scores held
+    → Stands Adm (valueAt scores) mask held m best at set sum → (i : ℕ) → sum + valueAt scores i ≤ 200000
+sum-fits {scores = scores} {set = set} w s i = omega (arith, comes-most (valueAt scores) topScore (w .most) set, w .most i, s .worth)
+
+-- ---- less is left as results are passed over or join
+
+pub skip-less : (at set : ℕ) → at < mostResults → left (at + 1) set < left at set
+unfolding left room
+skip-less at set h = let g = half-room at h in let p = pow-pos (mostResults - suc at) in rw (add-one at) (omega arith)
+
+pub join-less : (at set : ℕ) {set′ : ℕ} → at < mostResults → set < 2 ^ at → set′ ≡ bitOr set (1 * 2 ^ at % 65536) → left (at + 1) set′ < left at set
+unfolding left room
+join-less at set h l e =
+    let k = key-next at set h l in
+    let g = half-room at h in
+    rw (e ∙ next at set h l, add-one at) (omega arith)

@@ -1,0 +1,25 @@
+-- Numbers by position: in a list, and packed, those of 16 bits four to a word, the first the lowest.
+use Prim.Native.Nat.{ℕ, _*_, _/_, _%_, _^_}
+use mathlib.Core.Path.{_≡_}
+use mathlib.Core.List.{List}
+use lib.ListN.{getD}
+use Rattle.paper.specs.Words.{_=?_, if_then_else_}
+use Rattle.seek.specs.declared.packing.Packed.{Packed}
+
+-- the value at a position; 0 past the list
+abbrev pub valueAt : List ℕ → ℕ → ℕ
+valueAt values i = getD values i 0
+
+-- a word, from 0 to 3, and number i
+abbrev pub wordOf : Packed → ℕ → ℕ
+wordOf packed word = if word =? 0 then packed .first else if word =? 1 then packed .second else if word =? 2 then packed .third else packed .fourth
+
+unfoldable pub valueIn : Packed → ℕ → ℕ
+valueIn packed i = wordOf packed (i / 4) / 2 ^ (16 * (i % 4)) % 65536
+
+-- a word holds these four numbers
+pub record FourIn (word a b c d : ℕ) : Type 0 where
+  pub one : word % 65536 ≡ a
+  pub two : word / 65536 % 65536 ≡ b
+  pub three : word / 4294967296 % 65536 ≡ c
+  pub four : word / 281474976710656 % 65536 ≡ d

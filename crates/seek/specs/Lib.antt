@@ -1,0 +1,4 @@
+pub mod Sets
+pub mod InnerPacking
+pub mod InnerTest
+pub mod InnerSearch

@@ -1,0 +1,205 @@
+// The search for the best set: those of five kept results are tried in dictionary order of their positions, up to three members by stepping, the fourth and
+// the fifth by loops. `held` is the number of results.
+ghost use Prim.Native.Nat.{ℕ, _≤_, _<_};
+ghost use mathlib.Core.Path.{_≡_};
+ghost use lib.Count.{ones};
+ghost use Rattle.paper.specs.Limits.{mostResults};
+ghost use Rattle.seek.specs.Sets.{In};
+ghost use Rattle.seek.specs.InnerPacking.{valueIn, valueAt};
+ghost use Rattle.seek.specs.InnerTest.{Below, Distinct, Shares, Allowed, Decides, Beats, Answers};
+ghost use Rattle.seek.specs.InnerSearch.{Sought, key, room, Tried, Stands, Bettered};
+use crate::packing;
+use crate::packing::Packed;
+use paper::limits::LEAST_GENERAL;
+use paper::limits::MEMBERS;
+use paper::limits::MOST_RESULTS;
+
+// The members of a set, as a number of positions.
+const MEMBER_COUNT: usize = MEMBERS as usize;
+
+// Those that the search steps to; the last two are tried in loops.
+const STEPPED: usize = MEMBER_COUNT - 2;
+
+// What the test of a set reads: the kept results and those of each sort that the rules of sets ask for, bit i for result i; and the identities by
+// position, 0 where there is none.
+pub struct Test {
+    pub kept: u16,
+    pub general: u16,
+    pub general_english: u16,
+    pub applied_english: u16,
+    pub general_maths: u16,
+    pub applied_maths: u16,
+    pub identities: Packed,
+}
+
+// The best set so far with its sum, or none.
+pub enum Lead {
+    Leading { total: u32, set: u16 },
+    Nothing,
+}
+
+// Whether a member after result i has its identity.
+fn shares_later(identities: Packed, held: usize, set: u16, i: usize) -> bool
+    requires { ⌜ (i < mostResults) × (held ≤ mostResults) × Below held set ⌝ }
+    ensures { λ r. ⌜ Decides r (Shares (valueIn identities) set i) ⌝ }
+{
+    let own = packing::value_in(identities, i);
+    if own == 0 {
+        return false;
+    }
+    let mut j: usize = i + 1;
+    while j < held {
+        if set & (1u16 << j) != 0 && packing::value_in(identities, j) == own {
+            return true;
+        }
+        j += 1;
+    }
+    false
+}
+
+// Whether no two members have one identity.
+fn distinct(identities: Packed, held: usize, set: u16) -> bool
+    requires { ⌜ (held ≤ mostResults) × Below held set ⌝ }
+    ensures { λ r. ⌜ Decides r (Distinct (valueIn identities) set) ⌝ }
+{
+    let mut i: usize = 0;
+    while i < held {
+        if set & (1u16 << i) != 0 && shares_later(identities, held, set, i) {
+            return false;
+        }
+        i += 1;
+    }
+    true
+}
+
+// Whether a set of kept results is admissible.
+fn admissible(test: Test, held: usize, set: u16) -> bool
+    requires { ⌜ (held ≤ mostResults) × Below held (test .kept) × ((i : ℕ) → In i set → In i (test .kept)) ⌝ }
+    ensures { λ r. ⌜ Decides r (Allowed test set) ⌝ }
+{
+    if u16::count_ones(set) != MEMBERS {
+        return false;
+    }
+    if u16::count_ones(set & test.general) < LEAST_GENERAL {
+        return false;
+    }
+    if set & test.general_english != 0 && set & test.applied_english != 0 {
+        return false;
+    }
+    if set & test.general_maths != 0 && set & test.applied_maths != 0 {
+        return false;
+    }
+    distinct(test.identities, held, set)
+}
+
+// Whether a sum is more than the best so far.
+fn beats(best: Lead, sum: u32) -> bool
+    ensures { λ r. ⌜ Decides r (Beats best sum) ⌝ }
+{
+    match best {
+        Lead::Nothing => true,
+        Lead::Leading { total, set: _ } => total < sum,
+    }
+}
+
+// The best with one set more.
+fn better(test: Test, held: usize, best: Lead, set: u16, sum: u32) -> Lead
+    requires { ⌜ (held ≤ mostResults) × Below held (test .kept) × ((i : ℕ) → In i set → In i (test .kept)) ⌝ }
+    ensures { λ r. ⌜ Bettered (Allowed test) best set sum r ⌝ }
+{
+    if beats(best, sum) && admissible(test, held, set) {
+        return Lead::Leading { total: sum, set };
+    }
+    best
+}
+
+// The best with every set that goes on from a set of four by a result from `at` on.
+fn with_fifth(
+    test: Test,
+    scores: &[u32; MOST_RESULTS],
+    held: usize,
+    best: Lead,
+    set: u16,
+    sum: u32,
+    at: usize,
+) -> Lead
+    requires { ⌜ Sought (test .kept) (now scores) held × (ones set ≡ 4)
+        × Stands (Allowed test) (valueAt (now scores)) (test .kept) held (room at set) best at set sum ⌝ }
+    ensures { λ r. ⌜ Tried (Allowed test) (valueAt (now (scores .entry))) (key mostResults set) r ⌝ }
+{
+    let mut best = best;
+    let mut i = at;
+    while i < held {
+        if test.kept & (1u16 << i) != 0 {
+            best = better(test, held, best, set | (1u16 << i), sum + scores[i]);
+        }
+        i += 1;
+    }
+    best
+}
+
+// The best with every set that goes on from a set of three by two results from `at` on.
+fn with_fourth(
+    test: Test,
+    scores: &[u32; MOST_RESULTS],
+    held: usize,
+    best: Lead,
+    set: u16,
+    sum: u32,
+    at: usize,
+) -> Lead
+    requires { ⌜ Sought (test .kept) (now scores) held × (ones set ≡ 3)
+        × Stands (Allowed test) (valueAt (now scores)) (test .kept) held (room at set) best at set sum ⌝ }
+    ensures { λ r. ⌜ Tried (Allowed test) (valueAt (now (scores .entry))) (key mostResults set) r ⌝ }
+{
+    let mut best = best;
+    let mut i = at;
+    while i + 1 < held {
+        if test.kept & (1u16 << i) != 0 {
+            let four = set | (1u16 << i);
+            best = with_fifth(test, scores, held, best, four, sum + scores[i], i + 1);
+        }
+        i += 1;
+    }
+    best
+}
+
+// The best of the admissible sets, the first of those that tie.
+pub fn search(test: Test, scores: &[u32; MOST_RESULTS], held: usize) -> Lead
+    requires { ⌜ Sought (test .kept) (now scores) held ⌝ }
+    ensures { λ r. ⌜ Answers (Allowed test) (valueAt (now (scores .entry))) r ⌝ }
+{
+    let mut best = Lead::Nothing;
+    let mut set: u16 = 0;
+    let mut sum: u32 = 0;
+    let mut at: usize = 0;
+    'sets: loop {
+        let members = u16::count_ones(set) as usize;
+        if members < STEPPED && at + MEMBER_COUNT <= held + members {
+            // members and results left can come to five: result `at` joins, if it is kept
+            if test.kept & (1u16 << at) != 0 {
+                set = set | (1u16 << at);
+                sum += scores[at];
+            }
+            at += 1;
+        } else {
+            if members == STEPPED {
+                best = with_fourth(test, scores, held, best, set, sum, at);
+            }
+            // the last member leaves, and the results after it are open again
+            'back: loop {
+                if at == 0 {
+                    break 'sets;
+                }
+                at -= 1;
+                if set & (1u16 << at) != 0 {
+                    set = set ^ (1u16 << at);
+                    sum -= scores[at];
+                    at += 1;
+                    break 'back;
+                }
+            }
+        }
+    }
+    best
+}

@@ -1,0 +1,91 @@
+-- What C gets is determined, and so is every lent buffer; and something is permitted.
+use Prim.Native.Nat.{ℕ, _≤_}
+use native.Mathlib.Omega.{arith}
+use mathlib.Core.Path.{_≡_, refl}
+use mathlib.Core.List.{List}
+use Rattle.paper.specs.Rulings.{numberOf}
+use Rattle.paper.specs.Refusals.{fault}
+use Rattle.paper.specs.declared.refusal.Refusal.{Refusal}
+use Rattle.paper.specs.declared.refusal.Refusal.the-variants.{Malformed, TooMany, WrongSubject, WrongResult, WrongScore, Again, NoEnglish, NoSet, WrongPopulation, WrongRate, WrongLength, WrongAggregate, WrongEntry, WrongYear}
+use Rattle.paper.proofs.Promised.{called-once, called-met}
+use Rattle.results.specs.Results.{Student}
+use Rattle.bestset.specs.Computed.{computed, answer as bestAnswer}
+use Rattle.bestset.proofs.Meeting.{determined as best-once, meets as best-met}
+use Rattle.curve.specs.Promise as curveSays
+use Rattle.curve.proofs.Promised as curve
+use Rattle.ranks.specs.Promise as ranksSay
+use Rattle.ranks.proofs.Promised as ranks
+use Rattle.bands.specs.Promise as bandsSay
+use Rattle.bands.proofs.Promised as bands
+use Rattle.report.specs.Promise as reportSays
+use Rattle.report.proofs.Promised as report
+use Rattle.shtegomir.specs.Best.{form as bestForm, BestCalled}
+use Rattle.shtegomir.specs.Participation.{form as curveForm, CurveCalled}
+use Rattle.shtegomir.specs.Ranking.{form as rankForm, RankCalled}
+use Rattle.shtegomir.specs.Placing.{form as placedForm, DirectCalled, TallyCalled}
+use Rattle.shtegomir.specs.Text.{form as textForm, ReportCalled}
+use Rattle.shtegomir.specs.declared.best.Best.{Best}
+use Rattle.shtegomir.specs.declared.participation.Curve.{Curve}
+use Rattle.shtegomir.specs.declared.ranking.Ranked.{Ranked}
+use Rattle.shtegomir.specs.declared.placing.Placed.{Placed}
+use Rattle.shtegomir.specs.declared.text.Text.{Text}
+
+-- for each entry: two permitted results are equal, and the computed one is permitted
+module _ (student : Student) (table : List ℕ) where
+  pub best-determined : {s t : Best} → BestCalled student table s → BestCalled student table t → s ≡ t
+  best-determined p q = called-once (λ a b x y. (best-once student table x y, refl)) p q .0
+
+  pub best-meets : BestCalled student table (bestForm (bestAnswer (computed student table)))
+  best-meets = called-met bestForm {r = bestAnswer (computed student table)} (best-met student table)
+
+module _ (figures before : List ℕ) where
+  pub curve-determined : {s t : Curve} {b c : List ℕ} → CurveCalled figures before s b → CurveCalled figures before t c → (s ≡ t) × (b ≡ c)
+  curve-determined = called-once (λ q r. curve.determined figures before)
+
+  pub curve-meets : let o = curveSays.ruling figures before in CurveCalled figures before (curveForm (curveSays.answer o)) (curveSays.left before o)
+  curve-meets = called-met curveForm (curve.meets figures before)
+
+module _ (values : List ℕ) (before : ranksSay.Lent) where
+  pub rank-determined : {s t : Ranked} {b c : ranksSay.Lent} → RankCalled values before s b → RankCalled values before t c → (s ≡ t) × (b ≡ c)
+  rank-determined = called-once (λ q r. ranks.determined values before)
+
+  pub rank-meets : let o = ranksSay.ruling values before in RankCalled values before (rankForm (ranksSay.answer o)) (ranksSay.left values before o)
+  rank-meets = called-met rankForm (ranks.meets values before)
+
+module _ (aggregates table : List ℕ) (Y : ℕ) (before : List ℕ) where
+  pub direct-determined : {s t : Placed} {b c : List ℕ} → DirectCalled aggregates table Y before s b → DirectCalled aggregates table Y before t c → (s ≡ t) × (b ≡ c)
+  direct-determined = called-once (λ q r. bands.determined aggregates table Y before)
+
+  pub direct-meets : let o = bandsSay.ruling aggregates table Y before in DirectCalled aggregates table Y before (placedForm (bandsSay.answer o)) (bandsSay.left aggregates table Y before o)
+  direct-meets = called-met placedForm (bands.meets aggregates table Y before)
+
+module _ (aggregates table : List ℕ) (Y : ℕ) (before : bandsSay.Lent) where
+  pub tally-determined : {s t : Placed} {b c : bandsSay.Lent} → TallyCalled aggregates table Y before s b → TallyCalled aggregates table Y before t c → (s ≡ t) × (b ≡ c)
+  tally-determined = called-once (λ q r. bands.tally-determined aggregates table Y before)
+
+  pub tally-meets : let o = bandsSay.tallyRuling aggregates table Y before in TallyCalled aggregates table Y before (placedForm (bandsSay.answer o)) (bandsSay.tallyLeft aggregates table Y before o)
+  tally-meets = called-met placedForm (bands.tally-meets aggregates table Y before)
+
+module _ (file before : List ℕ) where
+  pub report-determined : {s t : Text} {b c : List ℕ} → ReportCalled file before s b → ReportCalled file before t c → (s ≡ t) × (b ≡ c)
+  report-determined = called-once (λ q r. report.determined file before)
+
+  pub report-meets : let o = reportSays.ruling file before in ReportCalled file before (textForm (reportSays.answer o)) (reportSays.left file before o)
+  report-meets = called-met textForm (report.meets file before)
+
+-- no refusal has the number 0, by which C tells that it is accepted
+pub not-0 : (x : Refusal) → 1 ≤ numberOf (fault x)
+not-0 (Malformed place) = omega arith
+not-0 (TooMany place) = omega arith
+not-0 (WrongSubject place) = omega arith
+not-0 (WrongResult place) = omega arith
+not-0 (WrongScore place) = omega arith
+not-0 (Again place) = omega arith
+not-0 NoEnglish = omega arith
+not-0 NoSet = omega arith
+not-0 (WrongPopulation place) = omega arith
+not-0 (WrongRate place) = omega arith
+not-0 WrongLength = omega arith
+not-0 (WrongAggregate place) = omega arith
+not-0 (WrongEntry place) = omega arith
+not-0 (WrongYear place) = omega arith

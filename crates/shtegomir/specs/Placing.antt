@@ -1,0 +1,29 @@
+-- What C gets of bands.
+use Prim.Native.Nat.{ℕ}
+use mathlib.Core.List.{List}
+use Rattle.paper.specs.Rulings.{Outcome, accepted, refused, numberOf, placeOf}
+use Rattle.paper.specs.Promises.{Called}
+use Rattle.bands.specs.Promise.{said, Promise, Lent, TallyPromise}
+use Rattle.bands.specs.declared.Answer.{Answer}
+use Rattle.shtegomir.specs.declared.placing.Placed.{Placed}
+
+-- the remainder, 0 where it is refused
+abbrev pub remainderOf : Outcome ℕ → ℕ
+remainderOf (accepted n) = n
+remainderOf (refused f) = 0
+
+-- accepted: refusal and place are 0; refused: the remainder is 0
+abbrev pub flatPlaced : Outcome ℕ → Placed
+flatPlaced (accepted n) = record { refusal = 0; place = 0; remainder = n }
+flatPlaced (refused f) = record { refusal = numberOf f; place = placeOf f; remainder = 0 }
+
+abbrev pub form : Answer → Placed
+form r = flatPlaced (said r)
+
+-- aggregates, table, Y, the bands before, the struct, the bands after: those of an answer that the promise permits
+abbrev pub DirectCalled : List ℕ → List ℕ → ℕ → List ℕ → Placed → List ℕ → Type 0
+DirectCalled aggregates table Y before s after = Called (Promise aggregates table Y before) form s after
+
+-- by tally the same of both buffers
+abbrev pub TallyCalled : List ℕ → List ℕ → ℕ → Lent → Placed → Lent → Type 0
+TallyCalled aggregates table Y before s after = Called (TallyPromise aggregates table Y before) form s after

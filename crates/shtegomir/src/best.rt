@@ -1,0 +1,49 @@
+// The best set of one student.
+ghost use mathlib.Core.Path.{_≡_};
+ghost use Rattle.results.specs.Results.{student};
+ghost use Rattle.shtegomir.specs.Best.{form, BestCalled};
+use crate::telling::tell;
+use bestset::Answer;
+
+// Accepted: refusal and place are 0. Refused: aggregate and set are 0.
+#[repr(C)]
+pub struct Best {
+    pub refusal: u64,
+    pub place: u64,
+    pub aggregate: u32,
+    pub set: u16,
+}
+
+fn flatten(answer: Answer) -> Best
+    ensures { λ r. ⌜ r ≡ form answer ⌝ }
+{
+    match answer {
+        Answer::Accepted { aggregate, set } => Best {
+            refusal: 0,
+            place: 0,
+            aggregate,
+            set,
+        },
+        Answer::Refused(x) => {
+            let told = tell(x);
+            Best {
+                refusal: told.refusal,
+                place: told.place,
+                aggregate: 0,
+                set: 0,
+            }
+        }
+    }
+}
+
+#[no_mangle]
+pub extern "C" fn shtegomir_best_set(
+    catalogue: &[u8],
+    table: &[u8],
+    year: u32,
+    results: &[u8],
+) -> Best
+    ensures { λ r. ⌜ BestCalled (student (now (catalogue .entry)) (now (results .entry)) year) (now (table .entry)) r ⌝ }
+{
+    flatten(bestset::best_set(catalogue, table, results, year as u64))
+}

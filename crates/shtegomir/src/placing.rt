@@ -1,0 +1,63 @@
+// Bands, by direct count and by tally.
+ghost use mathlib.Core.Path.{_≡_};
+ghost use Prim.Native.Nat.{_≤_};
+ghost use Rattle.paper.specs.Limits.{mostTallied};
+ghost use Rattle.bands.specs.Promise.{said, lent};
+ghost use Rattle.shtegomir.specs.Placing.{remainderOf, form, DirectCalled, TallyCalled};
+use crate::telling::tell;
+use bands::Answer;
+
+// Accepted: refusal and place are 0. Refused: the remainder is 0.
+#[repr(C)]
+pub struct Placed {
+    pub refusal: u64,
+    pub place: u64,
+    pub remainder: u32,
+}
+
+// No more are left over than there are students.
+fn flatten(answer: Answer) -> Placed
+    requires { ⌜ remainderOf (said answer) ≤ mostTallied ⌝ }
+    ensures { λ r. ⌜ r ≡ form answer ⌝ }
+{
+    match answer {
+        Answer::Accepted { remainder } => Placed {
+            refusal: 0,
+            place: 0,
+            remainder: remainder as u32,
+        },
+        Answer::Refused(x) => {
+            let told = tell(x);
+            Placed {
+                refusal: told.refusal,
+                place: told.place,
+                remainder: 0,
+            }
+        }
+    }
+}
+
+#[no_mangle]
+pub extern "C" fn shtegomir_place_direct(
+    aggregates: &[u32],
+    table: &[u32],
+    population: u32,
+    bands: &mut [u16],
+) -> Placed
+    ensures { λ r. ⌜ DirectCalled (now (aggregates .entry)) (now (table .entry)) population (now (bands .entry)) r (now (bands .exit)) ⌝ }
+{
+    flatten(bands::place(aggregates, table, population, bands))
+}
+
+#[no_mangle]
+pub extern "C" fn shtegomir_place_tally(
+    aggregates: &[u32],
+    table: &[u32],
+    population: u32,
+    bands: &mut [u16],
+    counts: &mut [u32],
+) -> Placed
+    ensures { λ r. ⌜ TallyCalled (now (aggregates .entry)) (now (table .entry)) population (lent (now (counts .entry)) (now (bands .entry))) r (lent (now (counts .exit)) (now (bands .exit))) ⌝ }
+{
+    flatten(bands::place_by_tally(aggregates, table, population, counts, bands))
+}

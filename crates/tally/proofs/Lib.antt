@@ -1,0 +1,5 @@
+pub mod ByHand
+pub mod Counting
+pub mod Reaching
+pub mod Tallies
+pub mod Turns

@@ -1,0 +1,130 @@
+-- What a turn of each loop adds.
+use Prim.Native.Nat.{ℕ, _+_, _-_, _*_, _≤_, _<_}
+use native.Mathlib.Omega.{arith}
+use native.Mathlib.Decide.{decLt, ℕ-discrete}
+use mathlib.Core.Path.{_≡_, refl, sym, ap, _∙_}
+use mathlib.Core.Bool.{true, false}
+use mathlib.Core.List.{List}
+use lib.ListN.{length, getD, set, length-set, List·getD-eq-default}
+use lib.Dec.{leb, eqb}
+use lib.Seq.{getD-set-same, getD-set-other}
+use borrow.Author.Tests.{eq-eqb, ne-eqb}
+use Rattle.paper.specs.Limits.{mostPopulation, topBand, tallyCount}
+use Rattle.paper.specs.Lists.{pick, sum, count, sumOf, listed}
+use Rattle.paper.proofs.Listing.{sum-none, sum-back, length-listed, at-list, is-listed, sumOf-end}
+use Rattle.tally.specs.Counts.{numberAt, tallyOf}
+use Rattle.tally.specs.Places.{onePlace, bandOf}
+use Rattle.tally.specs.Inner.{Sized}
+use Rattle.tally.specs.InnerSearch.{Stands, SearchAt, Reaches}
+use Rattle.tally.specs.InnerTally.{zeros, sumsOf, bandsBy, leftAt, remainderBy}
+use Rattle.tally.proofs.Counting.{count-next}
+use Rattle.tally.proofs.Reaching.{search-top, search-for, search-on, left-is}
+use Rattle.tally.proofs.Tallies.{sums-long, sums-at, sums-back, sums-most}
+
+-- one more student counted
+pub tally-next : (xs counts : List ℕ) (i a : ℕ) → a ≡ getD xs i 0 → a < length counts
+    → ((t : ℕ) → getD counts t 0 ≡ count i (λ j. eqb (getD xs j 0) t)) → (t : ℕ) → getD (set counts a (getD counts a 0 + 1)) t 0 ≡ count (i + 1) (λ j. eqb (getD xs j 0) t)
+tally-next xs counts i a e l all t = go (ℕ-discrete t a)
+  where
+    go : Dec (t ≡ a) → getD (set counts a (getD counts a 0 + 1)) t 0 ≡ count (i + 1) (λ j. eqb (getD xs j 0) t)
+    go (yes q) =
+        rw q
+        (getD-set-same counts a (getD counts a 0 + 1) 0 l
+        ∙ omega (arith, all a, count-next i (λ j. eqb (getD xs j 0) a) true (eq-eqb (getD xs i 0) a (sym e))))
+    go (no q) =
+        getD-set-other counts a t (getD counts a 0 + 1) 0 q
+        ∙ omega (arith, all t, count-next i (λ j. eqb (getD xs j 0) t) false (ne-eqb (getD xs i 0) t (λ z. q (sym z ∙ sym e))))
+
+-- all counted
+pub tally-done : (xs counts : List ℕ) (i : ℕ) → i ≡ length xs → length counts ≡ tallyCount → ((t : ℕ) → getD counts t 0 ≡ count i (λ j. eqb (getD xs j 0) t)) → counts ≡ tallyOf xs
+unfolding tallyOf numberAt
+tally-done xs counts i e l all = is-listed counts tallyCount (numberAt xs) l (λ t m. rw e at (all t))
+
+pub zeros-at : (n t : ℕ) → getD (zeros n) t 0 ≡ 0
+unfolding zeros
+zeros-at n t = go (decLt t n)
+  where
+    go : Dec (t < n) → getD (listed 0 n (λ t. 0)) t 0 ≡ 0
+    go (yes l) = at-list n (λ t. 0) t l
+    go (no l) = let m : length (listed 0 n (λ t. 0)) ≤ t = omega (arith, length-listed 0 n (λ t. 0)) in List·getD-eq-default (listed 0 n (λ t. 0)) 0 m
+
+-- a list that a walk down has filled with f from t on
+pub record Down (before : List ℕ) (f : ℕ → ℕ) (t : ℕ) (xs : List ℕ) : Type 0 where
+  pub long : length xs ≡ length before
+  pub within : t ≤ length before
+  pub below : (j : ℕ) → j < t → getD xs j 0 ≡ getD before j 0
+  pub from : (j : ℕ) → t ≤ j → j < length before → getD xs j 0 ≡ f j
+
+down-start : (before : List ℕ) (f : ℕ → ℕ) → Down before f (length before) before
+down-start before f = record { long = refl; within = omega arith; below = λ j l. refl; from = λ j l m. absurd (omega arith) }
+
+down-next : {before : List ℕ} {f : ℕ → ℕ} {t : ℕ} {xs : List ℕ} {v : ℕ} → 0 < t → Down before f t xs → v ≡ f (t - 1) → Down before f (t - 1) (set xs (t - 1) v)
+down-next {before} {f} {t} {xs} {v} l d e = record {
+  long = length-set xs (t - 1) v ∙ d .long;
+  within = omega (arith, d .within);
+  below = λ j m. getD-set-other xs (t - 1) j v 0 (λ z. omega arith) ∙ d .below j (omega arith);
+  from = λ j m n. go j m n (ℕ-discrete j (t - 1));
+}
+  where
+    go : (j : ℕ) → t - 1 ≤ j → j < length before → Dec (j ≡ t - 1) → getD (set xs (t - 1) v) j 0 ≡ f j
+    go j m n (yes z) = rw z (getD-set-same xs (t - 1) v 0 (omega (arith, d .long, d .within)) ∙ e)
+    go j m n (no z) = getD-set-other xs (t - 1) j v 0 z ∙ d .from j (omega arith) n
+
+down-end : {before : List ℕ} {f : ℕ → ℕ} {t : ℕ} {xs : List ℕ} → t ≡ 0 → Down before f t xs → xs ≡ listed 0 (length before) f
+down-end {before} {f} {t} {xs} z d = is-listed xs (length before) f (d .long) (λ i l. d .from i (omega arith) l)
+
+-- the walk over a tally has come down to t: the band reached, C, and the students left over
+pub record Walked (table : List ℕ) (Y : ℕ) (tally : List ℕ) (t : ℕ) (counts : List ℕ) (k s room c left : ℕ) : Type 0 where
+  pub down : Down tally (λ t. bandOf table Y (getD (sumsOf tally) t 0)) t counts
+  pub at : SearchAt table Y c k s room
+  pub c-is : c ≡ getD (sumsOf tally) t 0
+  pub left-at : left + sum t (leftAt table Y (sumsOf tally)) ≡ sum (length tally) (leftAt table Y (sumsOf tally))
+  pub few : left ≤ c
+
+pub walk-start : {table : List ℕ} {Y : ℕ} (tally : List ℕ) {k s room : ℕ} → Sized table → Y ≤ mostPopulation → k ≡ topBand → Stands table Y k s room
+    → Walked table Y tally (length tally) tally k s room 0 0
+walk-start tally z y e f = record {
+  down = down-start tally _;
+  at = search-top z y e f;
+  c-is = omega (arith, sums-at tally (length tally), sumOf-end tally (length tally) (omega arith));
+  left-at = omega arith;
+  few = omega arith;
+}
+
+module _ {table : List ℕ} {Y : ℕ} {tally : List ℕ} {t : ℕ} {counts : List ℕ} {k s room c left : ℕ} (w : Walked table Y tally t counts k s room c left) where
+  module _ (l : 0 < t) where
+    -- C with the students here
+    c-next : c + getD counts (t - 1) 0 ≡ getD (sumsOf tally) (t - 1) 0
+    c-next = omega (arith, w .c-is, w .down .below (t - 1) (omega arith), sums-back tally t l (w .down .within))
+
+    pub c-most : c + getD counts (t - 1) 0 ≤ sumOf tally
+    c-most = omega (arith, c-next, sums-most tally (t - 1))
+
+    pub walk-from : SearchAt table Y (c + getD counts (t - 1) 0) k s room
+    walk-from = search-for (w .at) (c + getD counts (t - 1) 0) (omega arith)
+
+    pub walk-next : {band s′ room′ r : ℕ} → Reaches table Y (c + getD counts (t - 1) 0) band s′ room′
+        → r ≡ pick (leb (onePlace * (c + getD counts (t - 1) 0)) room′) 0 (getD counts (t - 1) 0)
+        → Walked table Y tally (t - 1) (set counts (t - 1) band) band s′ room′ (c + getD counts (t - 1) 0) (left + r)
+    walk-next {band} {s′} {room′} {r} h e = record {
+      down = down-next l (w .down) (h .band-is ∙ ap (bandOf table Y) c-next);
+      at = search-on h (w .at .sized) (w .at .people);
+      c-is = c-next;
+      left-at = omega (arith, here, sum-back t (leftAt table Y (sumsOf tally)) l, w .left-at);
+      few = omega (arith, w .few, left-is h (getD counts (t - 1) 0) r e .1);
+    }
+      where
+        next : t - 1 + 1 ≡ t
+        next = omega arith
+
+        gone : c + getD counts (t - 1) 0 - c ≡ getD counts (t - 1) 0
+        gone = omega arith
+
+        here : r ≡ leftAt table Y (sumsOf tally) (t - 1)
+        here = rw (next, ← c-next, ← (w .c-is), gone) (left-is h (getD counts (t - 1) 0) r e .0)
+
+  pub walk-end : t ≡ 0 → (left ≡ remainderBy table Y (sumsOf tally)) × (counts ≡ bandsBy table Y (sumsOf tally))
+  unfolding remainderBy bandsBy
+  walk-end z =
+      rw (sums-long tally)
+      (omega (arith, w .left-at, sum-none (leftAt table Y (sumsOf tally)), rw z at (w .left-at)), down-end z (w .down))

@@ -1,0 +1,6 @@
+pub mod Counts
+pub mod Places
+pub mod Inner
+pub mod InnerSearch
+pub mod InnerTally
+pub mod Examples
