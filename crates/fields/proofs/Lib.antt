@@ -1,0 +1,4 @@
+pub mod ByHand
+pub mod Headed
+pub mod Inverse
+pub mod Pieces

@@ -1,0 +1,3 @@
+// The fields of a cohort file: tags, lengths, order, limits.
+pub mod heads;
+pub mod order;
