@@ -1,9 +1,8 @@
 -- What the reader promises, for every file.
-use Prim.Native.Nat.{ℕ, _/_}
+use Prim.Native.Nat.{ℕ}
 use mathlib.Core.Path.{_≡_}
 use mathlib.Core.List.{List}
 use lib.ListN.{length}
-use Rattle.paper.specs.Limits.{resultBytes}
 use Rattle.paper.specs.Parts.{laid}
 use Rattle.paper.specs.Rulings.{Outcome, accepted, refused, mapped, valuesOr}
 use Rattle.paper.specs.Refusals.{fault}
@@ -19,29 +18,27 @@ pub record Values : Type 0 where
   pub year : ℕ
   pub subjects : ℕ
   pub students : ℕ
-  pub results : ℕ
   pub population : ℕ
   pub rate : ℕ
 
 -- the paper's values, or number and place, of each case of the answer
 abbrev pub said : Answer → Outcome Values
-said (Accepted year subjects students results population rate) =
-    accepted (record { year = year; subjects = subjects; students = students; results = results; population = population; rate = rate })
+said (Accepted year subjects students population rate) =
+    accepted (record { year = year; subjects = subjects; students = students; population = population; rate = rate })
 said (Refused x) = refused (fault x)
 
--- the year; how many subjects, students and results there are in all; Y and r
+-- the year; how many subjects and students there are; Y and r
 abbrev pub valuesOf : Held → Values
 valuesOf held = record {
   year = held .year;
   subjects = subjects (held .catalogue);
   students = length (held .students);
-  results = length (resultsOf (held .students)) / resultBytes;
   population = Y (held .figures);
   rate = rate (held .figures);
 }
 
 -- the content of the six lent buffers
-pub record Buffers : Type 0 where
+pub record Lent : Type 0 where
   pub catalogue : List ℕ
   pub table : List ℕ
   pub figures : List ℕ
@@ -49,18 +46,18 @@ pub record Buffers : Type 0 where
   pub counts : List ℕ
   pub results : List ℕ
 
-abbrev pub buffers : List ℕ → List ℕ → List ℕ → List ℕ → List ℕ → List ℕ → Buffers
-buffers a b c d e f = record { catalogue = a; table = b; figures = c; ids = d; counts = e; results = f }
+abbrev pub lent : List ℕ → List ℕ → List ℕ → List ℕ → List ℕ → List ℕ → Lent
+lent a b c d e f = record { catalogue = a; table = b; figures = c; ids = d; counts = e; results = f }
 
 -- what is held, laid into the buffers from their start on, the rest as it was
-abbrev pub written : Held → Buffers → Buffers
-written held old = record {
-  catalogue = laid (old .catalogue) 0 (held .catalogue);
-  table = laid (old .table) 0 (held .table);
-  figures = laid (old .figures) 0 (held .figures);
-  ids = laid (old .ids) 0 (idsOf (held .students));
-  counts = laid (old .counts) 0 (countsOf (held .students));
-  results = laid (old .results) 0 (resultsOf (held .students));
+abbrev pub written : Held → Lent → Lent
+written held before = record {
+  catalogue = laid (before .catalogue) 0 (held .catalogue);
+  table = laid (before .table) 0 (held .table);
+  figures = laid (before .figures) 0 (held .figures);
+  ids = laid (before .ids) 0 (idsOf (held .students));
+  counts = laid (before .counts) 0 (countsOf (held .students));
+  results = laid (before .results) 0 (resultsOf (held .students));
 }
 
 -- the ruling: what is held has these values
@@ -68,19 +65,19 @@ abbrev pub ruling : List ℕ → Outcome Values
 ruling file = mapped valuesOf (reading file)
 
 -- what a file that is accepted holds, in the buffers
-abbrev pub holding : List ℕ → Buffers → Buffers
-holding file old = written (valuesOr nothing (reading file)) old
+abbrev pub holding : List ℕ → Lent → Lent
+holding file before = written (valuesOr nothing (reading file)) before
 
 -- file, the buffers before, the answer, the buffers after: accepted, they hold what is held
-abbrev pub Promise : List ℕ → Buffers → Answer → Buffers → Type 0
-Promise file old r new = Promised said (Is (ruling file)) (λ v after. after ≡ holding file old) old r new
+abbrev pub Promise : List ℕ → Lent → Answer → Lent → Type 0
+Promise file before r after = Promised said (Is (ruling file)) (λ v lent. lent ≡ holding file before) before r after
 
 -- the answer and the buffers of an outcome, computed
 abbrev pub accept : Values → Answer
-accept v = Accepted (v .year) (v .subjects) (v .students) (v .results) (v .population) (v .rate)
+accept v = Accepted (v .year) (v .subjects) (v .students) (v .population) (v .rate)
 
 abbrev pub answer : Outcome Values → Answer
 answer = answered accept Refused
 
-abbrev pub left : List ℕ → Buffers → Outcome Values → Buffers
-left file old = filled (λ v. holding file old) old
+abbrev pub left : List ℕ → Lent → Outcome Values → Lent
+left file before = filled (λ v. holding file before) before

@@ -7,7 +7,8 @@ use Rattle.paper.specs.Limits.{mostResults}
 use Rattle.paper.specs.Bytes.{word, wordBytes}
 use Rattle.paper.specs.Rulings.{Outcome, accepted, refused, _at_, judged}
 use Rattle.fields.specs.Fields.{Field, fileOf, whole, cut, pieces, piecesOf, placed}
-use Rattle.fields.specs.Order.{Far, start, further, fieldRules, endRules}
+use Rattle.fields.specs.Order.{start, further, orderRules, endRules}
+use Rattle.fields.specs.declared.order.Far.{Far}
 use Rattle.fields.specs.Inner.{headAt}
 use Rattle.fields.specs.declared.heads.Head.the-variants.{Whole, Cut}
 
@@ -56,10 +57,10 @@ counted = (refl, refl, refl, refl, refl, refl)
 
 -- a field at offset 8 after a last tag, with a value of so many bytes; and with the numbers of what is there
 abbrev judgedAfter : ℕ → ℕ → ℕ → Outcome (Unit {0})
-judgedAfter last tag long = judged (fieldRules mostResults (far last 1 1 1) (field tag (replicate long 0)) 8) tt
+judgedAfter last tag long = judged (orderRules mostResults (far last 1 1 1) (field tag (replicate long 0)) 8) tt
 
 abbrev judgedWith : Far → ℕ → ℕ → Outcome (Unit {0})
-judgedWith so tag long = judged (fieldRules mostResults so (field tag (replicate long 0)) 8) tt
+judgedWith so tag long = judged (orderRules mostResults so (field tag (replicate long 0)) 8) tt
 
 abbrev good : Outcome (Unit {0})
 good = accepted tt
@@ -116,7 +117,7 @@ pub limits :
     × (judgedWith (far 6 1 1 16) 6 6 ≡ over)
     × (judgedWith (far 6 1 1 16) 6 7 ≡ one)
     × (judgedWith (far 3 64 0 0) 2 5 ≡ one)
-    × (judged (fieldRules 17 (far 6 1 1 16) (field 6 (replicate 6 0)) 8) tt ≡ good)
+    × (judged (orderRules 17 (far 6 1 1 16) (field 6 (replicate 6 0)) 8) tt ≡ good)
 limits = (refl, refl, refl, refl, refl, refl, refl, refl, refl)
 
 -- 1: the end before the tag 1 and before the tag 4

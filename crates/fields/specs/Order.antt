@@ -8,7 +8,7 @@ use Rattle.paper.specs.Words.{_≤?_, _<?_, _=?_, _≠?_, if_then_else_}
 use Rattle.paper.specs.Ranges.{within}
 use Rattle.paper.specs.Rulings.{Rule, _⇒_, _at_}
 use Rattle.fields.specs.Fields.{Field, lengthOf}
-pub use Rattle.fields.specs.declared.order.Far.{Far}
+use Rattle.fields.specs.declared.order.Far.{Far}
 
 -- before the first field: no tag, no subject, no student, no result
 abbrev pub start : Far
@@ -51,8 +51,8 @@ headRules limit far tag long p =
     ∷ full limit far tag ⇒ 2 at p
     ∷ []
 
-abbrev pub fieldRules : ℕ → Far → Field → ℕ → List Rule
-fieldRules limit far f p = headRules limit far (f .tag) (length (f .value)) p
+abbrev pub orderRules : ℕ → Far → Field → ℕ → List Rule
+orderRules limit far f p = headRules limit far (f .tag) (length (f .value)) p
 
 -- 1: the file ends before its tag 1 or its tag 4
 abbrev pub endRules : Far → ℕ → List Rule

@@ -4,7 +4,7 @@ ghost use Rattle.paper.specs.Rulings.{judged};
 ghost use Rattle.paper.specs.Screening.{ruled};
 ghost use Rattle.fields.specs.Fields.{lengthOf};
 ghost use Rattle.fields.specs.Order.{start, further, follows, full, headRules, endRules};
-ghost use Rattle.fields.specs.Inner.{Room};
+ghost use Rattle.fields.specs.Inner.{Countable};
 use paper::limits::ENTRY_BYTES;
 use paper::limits::FIGURE_BYTES;
 use paper::limits::FIGURE_COUNT;
@@ -39,7 +39,7 @@ pub fn start() -> Far
 
 // With a field of the tag more.
 pub fn further(far: Far, tag: u8) -> Far
-    requires { ⌜ Room far tag ⌝ }
+    requires { ⌜ Countable far tag ⌝ }
     ensures { λ r. ⌜ r ≡ further far tag ⌝ }
 {
     let mut next = far;
