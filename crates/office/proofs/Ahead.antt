@@ -9,14 +9,14 @@ use lib.Seq.{getD-drop, drop-drop}
 use borrow.Author.Tests.{le-leb, lt-leb, lt-ltb, le-ltb}
 use Rattle.paper.specs.Bytes.{byte, word}
 use Rattle.paper.specs.Words.{_≤?_, _<?_, if_then_else_}
-use Rattle.cohort.specs.Fields.{Field, whole, cut, past, fields}
-use Rattle.cohort.proofs.Walk.{valueAt, fields-cut, fields-whole, fields-end}
+use Rattle.fields.specs.Fields.{Field, Piece, whole, cut, valueAt, fieldAt, past, pieces}
+use Rattle.fields.proofs.Pieces.{pieces-cut, pieces-whole, pieces-end}
 
--- at most n fields, the first at offset p, of what is left from there on
-unfoldable pub ahead : ℕ → ℕ → List ℕ → List Field
+-- at most n pieces, the first at offset p, of what is left from there on
+unfoldable pub ahead : ℕ → ℕ → List ℕ → List Piece
 ahead zero p rest = []
 ahead (suc n) p rest =
-    let others = whole p (byte rest 0) (valueAt rest 0) ∷ ahead n (p + past rest 0) (drop (past rest 0) rest) in
+    let others = whole p (fieldAt rest 0) ∷ ahead n (p + past rest 0) (drop (past rest 0) rest) in
     if length rest ≤? 0 then [] else if length rest <? past rest 0 then cut p ∷ [] else others
 
 module _ (file : List ℕ) where
@@ -27,20 +27,20 @@ module _ (file : List ℕ) where
   past-left : (p : ℕ) → p + past (drop p file) 0 ≡ past file p
   past-left p = let e = word-left p in omega (arith, e)
 
-  pub as-ahead : (n p : ℕ) → fields n file p ≡ ahead n p (drop p file)
-  unfolding fields ahead
+  pub as-ahead : (n p : ℕ) → pieces n file p ≡ ahead n p (drop p file)
+  unfolding pieces ahead
   as-ahead zero p = refl
   as-ahead (suc n) p = go (decLt p (length file)) (decLt (length file) (past file p)) (as-ahead n)
     where
       left : length (drop p file) ≡ length file - p
       left = length-drop p file
 
-      go : Dec (p < length file) → Dec (length file < past file p) → ((q : ℕ) → fields n file q ≡ ahead n q (drop q file)) → fields (suc n) file p ≡ ahead (suc n) p (drop p file)
-      go (no a) b r = let e : length (drop p file) ≤ 0 = omega (arith, left) in fields-end (suc n) file p (omega arith) ∙ simp (le-leb _ _ e) refl
+      go : Dec (p < length file) → Dec (length file < past file p) → ((q : ℕ) → pieces n file q ≡ ahead n q (drop q file)) → pieces (suc n) file p ≡ ahead (suc n) p (drop p file)
+      go (no a) b r = let e : length (drop p file) ≤ 0 = omega (arith, left) in pieces-end (suc n) file p (omega arith) ∙ simp (le-leb _ _ e) refl
       go (yes a) (yes b) r =
           let e : 0 < length (drop p file) = omega (arith, left) in
           let f : length (drop p file) < past (drop p file) 0 = omega (arith, left, past-left p) in
-          fields-cut n file p a b ∙ simp (lt-leb _ _ e, lt-ltb _ _ f) refl
+          pieces-cut n file p a b ∙ simp (lt-leb _ _ e, lt-ltb _ _ f) refl
       go (yes a) (no b) r =
           let e : 0 < length (drop p file) = omega (arith, left) in
           let f : past (drop p file) 0 ≤ length (drop p file) = omega (arith, left, past-left p) in
@@ -49,6 +49,6 @@ module _ (file : List ℕ) where
           let tag : byte (drop p file) 0 ≡ byte file p = getD-drop p file 0 0 ∙ ap (byte file) here in
           let value : valueAt (drop p file) 0 ≡ valueAt file p =
           ap (λ (w : ℕ). take w (drop 3 (drop p file))) (word-left p) ∙ ap (take (word file (p + 1))) (drop-drop 3 p file) in
-          let others : ahead n (p + next) (drop next (drop p file)) ≡ fields n file (past file p) =
+          let others : ahead n (p + next) (drop next (drop p file)) ≡ pieces n file (past file p) =
           ap (ahead n (p + next)) (drop-drop next p file) ∙ ap (λ (k : ℕ). ahead n k (drop k file)) (past-left p) ∙ sym (r (past file p)) in
-          fields-whole n file p a (omega arith) ∙ sym (simp (lt-leb _ _ e, le-ltb _ _ f, tag, value, others) refl)
+          pieces-whole n file p a (omega arith) ∙ sym (simp (lt-leb _ _ e, le-ltb _ _ f, tag, value, others) refl)

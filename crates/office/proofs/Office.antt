@@ -28,10 +28,10 @@ use Rattle.ranks.specs.Ranking.{ranksOf, percentilesOf}
 use Rattle.tally.specs.Places.{places, bandUpTo}
 use Rattle.bands.specs.Placing.{remainder}
 use Rattle.bands.specs.Search.{bandsOf}
-use Rattle.cohort.specs.Fields.{Field, whole, fieldsOf}
-use Rattle.cohort.specs.Held.{Held, nothing}
+use Rattle.fields.specs.Fields.{Piece, whole, piecesOf}
+use Rattle.cohort.specs.Taking.{newRow}
 use Rattle.cohort.specs.Judging.{holdsId}
-use Rattle.cohort.specs.Reading.{newRow, after, readAll, ended, body, reading}
+use Rattle.cohort.specs.Reading.{Reader, opened, after, readAll, ended, body, reading}
 use Rattle.listing.specs.Inner.{padded}
 use Rattle.listing.specs.Text.{digitsIn, digits, atar}
 use Rattle.report.specs.Report.{outcome, aggregatesOf, linesOf, textOfOutcome, textOf}
@@ -40,44 +40,44 @@ use Rattle.office.proofs.Ahead.{ahead, as-ahead}
 use Rattle.office.proofs.Scored.{score, scores, blank, at, row-read}
 
 -- a General row's fields, and those of the parts after it
-abbrev general : ℕ → ℕ → List Field
+abbrev general : ℕ → ℕ → List Piece
 general subject p = scores (λ j. 100 * j) subject slotCount 1 p
 
-abbrev start : List Field
+abbrev start : List Piece
 start = ahead 8 0 (opening [])
 
-abbrev after6 : List Field
+abbrev after6 : List Piece
 after6 = ahead 30 4077 closing
 
-abbrev after5 : List Field
-after5 = whole 4069 3 (score 6 70 6000) ∷ after6
+abbrev after5 : List Piece
+after5 = whole 4069 (score 6 70 6000) ∷ after6
 
-abbrev after4 : List Field
+abbrev after4 : List Piece
 after4 = general 5 3269 ++ after5
 
-abbrev after3 : List Field
-after3 = whole 3261 3 (score 4 90 9500) ∷ after4
+abbrev after3 : List Piece
+after3 = whole 3261 (score 4 90 9500) ∷ after4
 
-abbrev after2 : List Field
+abbrev after2 : List Piece
 after2 = general 3 2461 ++ after3
 
-abbrev after1 : List Field
+abbrev after1 : List Piece
 after1 = general 2 1661 ++ after2
 
-abbrev after0 : List Field
+abbrev after0 : List Piece
 after0 = general 1 861 ++ after1
 
-fields-are : fieldsOf office ≡ start ++ (general 0 61 ++ after0)
+pieces-are : piecesOf office ≡ start ++ (general 0 61 ++ after0)
 unfolding row word ahead scores
-fields-are = as-ahead office (length office) 0 ∙ refl
+pieces-are = as-ahead office (length office) 0 ∙ refl
 
 -- fields, and those after them
-then : (a b : List Field) (o x : Outcome Held) → readAll a o ≡ x → readAll (a ++ b) o ≡ readAll b x
+then : (a b : List Piece) (o x : Outcome Reader) → readAll a o ≡ x → readAll (a ++ b) o ≡ readAll b x
 then [] b o x e = ap (readAll b) e
 then (f ∷ a) b o x e = then a b (after o f) x e
 
--- what is held with a table, before the figures
-abbrev so : ℕ → List ℕ → Outcome Held
+-- the reader with a table, before the figures
+abbrev so : ℕ → List ℕ → Outcome Reader
 so last t = accepted (at 2021 catalogue last t)
 
 -- n rows with every slot missing, and n General rows before others
@@ -91,7 +91,7 @@ generals (suc n) others = generalRow ++ generals n others
 top : (slot : ℕ) → slot ≤ slotCount → 100 * slot ≤ topScore
 top slot h = omega arith
 
-started : readAll start (accepted nothing) ≡ so 2 (blanks 7)
+started : readAll start (accepted opened) ≡ so 2 (blanks 7)
 unfolding ahead word outside newRow blank
 started = refl
 
@@ -116,7 +116,7 @@ row3 : readAll (general 3 2461) (so 3 (generals 3 (blanks 4))) ≡ so 3 (general
 unfolding blank slots
 row3 = rowed 3 2461 3 (generals 3 []) (blanks 3) (lit< tt) refl refl
 
-row4 : after (so 3 (generals 4 (blanks 3))) (whole 3261 3 (score 4 90 9500)) ≡ so 3 (generals 4 (oneScore 90 9500 ++ blanks 2))
+row4 : after (so 3 (generals 4 (blanks 3))) (whole 3261 (score 4 90 9500)) ≡ so 3 (generals 4 (oneScore 90 9500 ++ blanks 2))
 unfolding blank slots word found stored laid wordBytes
 row4 = refl
 
@@ -124,17 +124,21 @@ row5 : readAll (general 5 3269) (so 3 (generals 4 (oneScore 90 9500 ++ blanks 2)
 unfolding blank slots
 row5 = rowed 5 3269 3 (generals 4 (oneScore 90 9500)) (blanks 1) (lit< tt) refl refl
 
-row6 : after (so 3 (generals 4 (oneScore 90 9500 ++ (generalRow ++ blanks 1)))) (whole 4069 3 (score 6 70 6000)) ≡ so 3 table
+row6 : after (so 3 (generals 4 (oneScore 90 9500 ++ (generalRow ++ blanks 1)))) (whole 4069 (score 6 70 6000)) ≡ so 3 table
 unfolding blank slots word found stored laid wordBytes
 row6 = refl
 
-closed : readAll after6 (so 3 table) ≡ accepted held
+-- how far the file is read at its end: a result of the last student is its last field
+abbrev at-end : Reader
+at-end = record { far = record { last = 6; subjects = 7; students = 4; latest = 5 }; held = held }
+
+closed : readAll after6 (so 3 table) ≡ accepted at-end
 unfolding ahead word long listed sum first nearest S E holdsId
 closed = refl
 
-all-read : readAll (start ++ (general 0 61 ++ after0)) (accepted nothing) ≡ accepted held
+all-read : readAll (start ++ (general 0 61 ++ after0)) (accepted opened) ≡ accepted at-end
 all-read =
-    then start (general 0 61 ++ after0) (accepted nothing) (so 2 (blanks 7)) started
+    then start (general 0 61 ++ after0) (accepted opened) (so 2 (blanks 7)) started
     ∙ then (general 0 61) after0 (so 2 (blanks 7)) (so 3 (generals 1 (blanks 6))) row0
     ∙ then (general 1 861) after1 (so 3 (generals 1 (blanks 6))) (so 3 (generals 2 (blanks 5))) row1
     ∙ then (general 2 1661) after2 (so 3 (generals 2 (blanks 5))) (so 3 (generals 3 (blanks 4))) row2
@@ -147,7 +151,7 @@ all-read =
 -- the file is read
 pub read : reading office ≡ accepted held
 unfolding reading body row
-read = ap (λ (fs : List Field). ended (length office) (readAll fs (accepted nothing))) fields-are ∙ ap (ended (length office)) all-read
+read = ap (λ (ps : List Piece). ended (length office) (readAll ps (accepted opened))) pieces-are ∙ ap (ended (length office)) all-read
 
 -- what it holds is listed
 pub told : textOfOutcome (accepted held) ≡ listing

@@ -22,19 +22,21 @@ use Rattle.scores.specs.Rows.{stored}
 use Rattle.scores.proofs.Filling.{found-there}
 use Rattle.scores.proofs.Rowed.{stored-slot}
 use Rattle.bestset.specs.Examples.{slots}
-use Rattle.cohort.specs.Fields.{Field, whole}
-use Rattle.cohort.specs.Held.{Held}
-use Rattle.cohort.specs.Judging.{given, fieldRules}
-use Rattle.cohort.specs.Reading.{taken, after, readAll}
+use Rattle.fields.specs.Fields.{Field, Piece, whole}
+use Rattle.cohort.specs.Judging.{given}
+use Rattle.cohort.specs.Reading.{Reader, passed, fieldRules, after, readAll}
 
--- subject, slot, score: the value of a field
-abbrev pub score : ℕ → ℕ → ℕ → List ℕ
-score subject slot v = 0 ∷ subject ∷ slot ∷ v / 256 ∷ v % 256 ∷ []
+-- subject, slot, score: the value of a field, and the field
+abbrev value : ℕ → ℕ → ℕ → List ℕ
+value subject slot v = 0 ∷ subject ∷ slot ∷ v / 256 ∷ v % 256 ∷ []
+
+abbrev pub score : ℕ → ℕ → ℕ → Field
+score subject slot v = record { tag = 3; value = value subject slot v }
 
 -- the scores f, the subject, n, the slot, p: the fields of n scores from a slot on, the first at offset p
-unfoldable pub scores : (ℕ → ℕ) → ℕ → ℕ → ℕ → ℕ → List Field
+unfoldable pub scores : (ℕ → ℕ) → ℕ → ℕ → ℕ → ℕ → List Piece
 scores f subject zero slot p = []
-scores f subject (suc n) slot p = whole p 3 (score subject slot (f slot)) ∷ scores f subject n (suc slot) (p + 8)
+scores f subject (suc n) slot p = whole p (score subject slot (f slot)) ∷ scores f subject n (suc slot) (p + 8)
 
 -- n slots, all missing
 unfoldable pub blank : ℕ → List ℕ
@@ -47,9 +49,12 @@ length-blank zero = refl
 length-blank (suc n) = let e = length-blank n in omega (arith, e)
 
 module _ (year : ℕ) (catalogue : List ℕ) where
-  -- what is held before the figures, by the last tag and the table
-  abbrev pub at : ℕ → List ℕ → Held
-  at last table = record { last = last; year = year; catalogue = catalogue; table = table; figures = []; students = [] }
+  -- the reader before the figures, by the last tag and the table
+  abbrev pub at : ℕ → List ℕ → Reader
+  at last table = record {
+    far = record { last = last; subjects = subjects catalogue; students = 0; latest = 0 };
+    held = record { year = year; catalogue = catalogue; table = table; figures = []; students = [] };
+  }
 
   -- one score, into a slot that is missing
   module _ (subject slot v : ℕ) (before rest : List ℕ) (known : subject < subjects catalogue) (low : 1 ≤ slot) (high : slot ≤ slotCount) (top : v ≤ topScore)
@@ -57,11 +62,11 @@ module _ (year : ℕ) (catalogue : List ℕ) where
     abbrev table : List ℕ
     table = before ++ (255 ∷ 255 ∷ rest)
 
-    subject-is : word (score subject slot v) 0 ≡ subject
+    subject-is : word (value subject slot v) 0 ≡ subject
     unfolding word
     subject-is = omega arith
 
-    score-is : word (score subject slot v) 3 ≡ v
+    score-is : word (value subject slot v) 3 ≡ v
     unfolding word
     score-is = omega arith
 
@@ -83,9 +88,9 @@ module _ (year : ℕ) (catalogue : List ℕ) where
         stored-slot table subject slot v has ∙ ap (λ (i : ℕ). laid table i (wordBytes v)) (sym here)
         ∙ rw (take-append-seam before (255 ∷ 255 ∷ rest), drop-append-add before (255 ∷ 255 ∷ rest) 2) refl
 
-    one : (last p : ℕ) → within 1 3 last ≡ true → after (accepted (at last table)) (whole p 3 (score subject slot v)) ≡ accepted (at 3 (before ++ (v / 256 ∷ v % 256 ∷ rest)))
+    one : (last p : ℕ) → within 1 3 last ≡ true → after (accepted (at last table)) (whole p (score subject slot v)) ≡ accepted (at 3 (before ++ (v / 256 ∷ v % 256 ∷ rest)))
     one last p l =
-        kept-all (fieldRules (at last table) 3 (score subject slot v) p) (taken (at last table) 3 (score subject slot v)) (
+        kept-all (fieldRules (at last table) (score subject slot v) p) (passed (at last table) (score subject slot v)) (
           refl,
           (
             refl,
@@ -107,7 +112,7 @@ module _ (year : ℕ) (catalogue : List ℕ) where
             ),
           ),
         )
-        ∙ ap (λ (t : List ℕ). accepted (at 3 t)) (ap (λ (w : ℕ). stored table w slot (word (score subject slot v) 3)) subject-is ∙ ap (stored table subject slot) score-is ∙ stored-there)
+        ∙ ap (λ (t : List ℕ). accepted (at 3 t)) (ap (λ (w : ℕ). stored table w slot (word (value subject slot v) 3)) subject-is ∙ ap (stored table subject slot) score-is ∙ stored-there)
 
   module _ (f : ℕ → ℕ) (subject : ℕ) (post : List ℕ) (known : subject < subjects catalogue) (top : (slot : ℕ) → slot ≤ slotCount → f slot ≤ topScore) where
     -- the scores from a slot to the row's last are read

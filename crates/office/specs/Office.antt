@@ -67,7 +67,6 @@ enrolled id s = record { id = id; results = s .results }
 
 abbrev pub held : Held
 held = record {
-  last = 6;
   year = 2021;
   catalogue = catalogue;
   table = table;

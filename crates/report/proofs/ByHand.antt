@@ -12,7 +12,7 @@ use Rattle.curve.specs.Population.{S, E}
 use Rattle.bands.specs.Placing.{remainder}
 use Rattle.cohort.specs.Judging.{holdsId}
 use Rattle.cohort.specs.Reading.{body, reading}
-use Rattle.cohort.specs.Fields.{fields}
+use Rattle.fields.specs.Fields.{pieces}
 use Rattle.listing.specs.Text.{digitsIn, digits}
 use Rattle.report.specs.Report.{outcome, aggregatesOf, linesOf, textOf}
 
@@ -25,7 +25,7 @@ head =
 
 -- refused 1 0
 pub empty : textOf [] ≡ 114 ∷ 101 ∷ 102 ∷ 117 ∷ 115 ∷ 101 ∷ 100 ∷ 32 ∷ 49 ∷ 32 ∷ 48 ∷ 10 ∷ []
-unfolding textOf reading body fields digits digitsIn
+unfolding textOf reading body pieces digits digitsIn
 empty = refl
 
 -- cohort 0 eligible 0 remainder 0
@@ -34,10 +34,10 @@ cohort n rest =
     99 ∷ 111 ∷ 104 ∷ 111 ∷ 114 ∷ 116 ∷ 32 ∷ n ∷ 32 ∷ 101 ∷ 108 ∷ 105 ∷ 103 ∷ 105 ∷ 98 ∷ 108 ∷ 101 ∷ 32 ∷ 48 ∷ 32 ∷ 114 ∷ 101 ∷ 109 ∷ 97 ∷ 105 ∷ 110 ∷ 100 ∷ 101 ∷ 114 ∷ 32 ∷ 48 ∷ 10 ∷ rest
 
 pub nobody : textOf head ≡ cohort 48 []
-unfolding textOf reading body fields digits digitsIn word long sum first nearest S E holdsId aggregatesOf linesOf outcome remainder count inTurn listed
+unfolding textOf reading body pieces digits digitsIn word long sum first nearest S E holdsId aggregatesOf linesOf outcome remainder count inTurn listed
 nobody = refl
 
 -- student 9 has no result: 9 refused 7 0
 pub no-result : textOf (head ++ (5 ∷ 0 ∷ 4 ∷ 0 ∷ 0 ∷ 0 ∷ 9 ∷ [])) ≡ cohort 49 (57 ∷ 32 ∷ 114 ∷ 101 ∷ 102 ∷ 117 ∷ 115 ∷ 101 ∷ 100 ∷ 32 ∷ 55 ∷ 32 ∷ 48 ∷ 10 ∷ [])
-unfolding textOf reading body fields digits digitsIn word long sum first nearest S E holdsId aggregatesOf linesOf outcome remainder count inTurn listed outside showsEnglish usable usableAt
+unfolding textOf reading body pieces digits digitsIn word long sum first nearest S E holdsId aggregatesOf linesOf outcome remainder count inTurn listed outside showsEnglish usable usableAt
 no-result = refl

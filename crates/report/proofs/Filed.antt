@@ -14,7 +14,7 @@ use Rattle.listing.specs.Lines.{fileLine}
 use Rattle.cohort.specs.Held.{Enrolled, Held, nothing, idsOf, countsOf, resultsOf}
 use Rattle.cohort.specs.Meaning.{Each, FewResults, Sound}
 use Rattle.cohort.specs.Reading.{reading}
-use Rattle.cohort.specs.Promise.{Values, said, Buffers, buffers, written, valuesOf, Promise}
+use Rattle.cohort.specs.Promise.{Values, said, Lent as Buffers, lent as buffers, written, valuesOf, Promise}
 use Rattle.cohort.specs.declared.Answer.{Answer}
 use Rattle.cohort.specs.declared.Answer.the-variants.{Refused}
 use Rattle.cohort.proofs.Holding.{sound}

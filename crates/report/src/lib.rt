@@ -154,7 +154,6 @@ fn list_file(file: &[u8], text: &mut [u8]) -> usize
             year,
             subjects,
             students,
-            results: _,
             population,
             rate: _,
         } => {

@@ -2,7 +2,7 @@ use Rattle.paper.specs.Limits.{entryBytes, rowBytes, mostSubjects}
 use Rattle.report.proofs.Puts.{shows-own}
 use Rattle.report.proofs.Filed.{refused-text, Taken, Lent, zeros, zeros-lent, taken, few-subjects, lent, few, enough, populated, accepted-text}
 use Rattle.report.specs.Inner.{Put}
-use Rattle.cohort.specs.Promise.{Values, said, Buffers, buffers}
+use Rattle.cohort.specs.Promise.{Values, said, Lent as Buffers, lent as buffers}
 use lib.Seq.{length-take-le}
 use mathlib.Core.Path.{sym, ap, subst, _∙_}
 use Prim.Native.Nat.{_*_, _≤_}
@@ -18,7 +18,7 @@ use Rattle.report.proofs.writing.append.Reads as append-reads
 abbrev values : (c : tie.After-known-told2) → Values
 values c =
     let g = c .before .read3 .given .0 in
-    record { year = g .0; subjects = g .1 .0; students = g .1 .1 .0; results = g .1 .1 .1 .0; population = g .1 .1 .1 .1 .0; rate = g .1 .1 .1 .1 .1 .0 }
+    record { year = g .0; subjects = g .1 .0; students = g .1 .1 .0; population = g .1 .1 .1 .0; rate = g .1 .1 .1 .1 .0 }
 
 abbrev left : (c : tie.After-known-told2) → Buffers
 left c =
