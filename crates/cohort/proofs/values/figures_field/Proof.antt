@@ -13,11 +13,19 @@ use Rattle.cohort.proofs.values.moved.Reads as moved-reads
 use Rattle.cohort.proofs.values.read_figures.Reads as read-figures-reads
 use Rattle.curve.proofs.population.Reads as population-reads
 
-abbrev figures : (c : tie.After-population) → List ℕ
-figures c = c .before .before .before .before .read-figures .last .1 .0
+-- the figures have been read, and the population asked of them
+module _ (c : tie.After-population) where
+  abbrev start : tie.Start
+  start = c .before .before .before .before .before .before .before .before
 
-promised : (c : tie.After-population) {r : Answer} → c .population .result ≡ r → PopulationPromise (figures c) r
-promised c e = subst (PopulationPromise (figures c)) e (c .population .ensures)
+  abbrev figures : List ℕ
+  figures = c .before .before .before .before .read-figures .last .1 .0
+
+  figures-are : figures ≡ figuresIn (start .args .value .now)
+  figures-are = c .before .before .before .before .read-figures .ensures
+
+  promised : {r : Answer} → c .population .result ≡ r → PopulationPromise figures r
+  promised e = subst (PopulationPromise figures) e (c .population .ensures)
 
 read-figures-requires : tie.Need-read-figures-requires
 read-figures-requires c κs = search needs
@@ -39,18 +47,22 @@ same-length c = search needs
 
 returns : tie.Need-returns
 returns c =
-    let a = c .before .before .before .before .before .before .before .before .before .before .before .before .args in
-    (figures-no (figures (c .before .before .before .before)) (a .value .now) (a .place) (c .before .before .answer .given .0 .0) (c .moved .result) _ (c .before .before .before .before .before .before .before .before .read-figures .ensures) (promised (c .before .before .before .before) (c .before .before .answer .given .1)) (c .moved .ensures), tt)
+    let d = c .before .before .before .before in
+    let a = start d .args in
+    let x = c .before .before .answer .given in
+    (figures-no (figures d) (a .value .now) (a .place) (x .0 .0) (c .moved .result) _ (figures-are d) (promised d (x .1)) (c .moved .ensures), tt)
 
 same-length-2 : tie.Need-same-length-2
 same-length-2 c = search needs
 
 returns-2 : tie.Need-returns-2
 returns-2 c =
-    let a = c .before .before .before .before .before .before .before .before .before .before .before .args in
+    let d = c .before .before .before in
+    let a = start d .args in
     let so = a .so in
+    let v = c .before .answer2 .given in
     let next : ℕ → ℕ → SoFar = λ y r. record { far = so .far; year = so .year; results = so .results; population = y; rate = r } in
-    (figures-yes (figures (c .before .before .before)) (a .value .now) (a .place) (c .before .answer2 .given .0 .0) (c .before .answer2 .given .0 .1 .0) next (c .before .before .before .before .before .before .before .read-figures .ensures) (promised (c .before .before .before) (c .before .answer2 .given .1)), c .before .before .before .before .before .before .before .read-figures .ensures)
+    (figures-yes (figures d) (a .value .now) (a .place) (v .0 .0) (v .0 .1 .0) next (figures-are d) (promised d (v .1)), figures-are d)
 
 pub figures-field-spec : {M : Type 1} → statement M
 figures-field-spec =

@@ -1,9 +1,10 @@
 use mathlib.Core.Path.{_≡_, refl, sym, ap, _∙_}
 use mathlib.Core.Bool.{false, not}
 use native.Mathlib.Omega.{arith}
-use Prim.Native.Nat.{_*_}
+use Prim.Native.Nat.{ℕ, _*_}
 use lib.Seq.{length-take-le}
 use lib.ListN.{take}
+use mathlib.Core.List.{List}
 use lib.Dec.{leb, ltb}
 use borrow.Author.Tests.{lt-ltb, le-ltb, le-leb, lt-leb}
 use Rattle.paper.specs.Limits.{rowBytes, slots, topScore}
@@ -21,17 +22,52 @@ use Rattle.paper.proofs.ranges.within.Reads as within-reads
 use Rattle.paper.proofs.widening.wide8.Reads as wide8-reads
 use Rattle.scores.proofs.rows.store.Reads as store-reads
 
-known : (c : tie.Else1) → leb (c .before .before .before .before .before .args .so .far .subjects) (word (c .before .before .before .before .before .args .value .now) 0) ≡ false
-known c = rw (← (c .before .before .word-at .ensures)) (lt-leb _ _ (c .if1 .left))
+-- the subject is in the catalogue
+module _ (c : tie.Else1) where
+  abbrev start : tie.Start
+  start = c .before .before .before .before .before
 
-ranged : (c : tie.Else2) → not (within 1 slots (byte (c .before .before .before .before .before .before .before .before .before .args .value .now) 2)) ≡ false
-ranged c = rw (← (c .before .before .before .byte-at .ensures)) (ap not (sym (rw (c .before .before .wide8 .ensures .0) at (c .before .within .ensures))) ∙ c .if2 .left)
+  abbrev value : List ℕ
+  value = start .args .value .now
 
-low : (c : tie.Else3) → ltb topScore (word (c .before .before .before .before .before .before .before .before .before .before .before .args .value .now) 3) ≡ false
-low c = rw (← (c .before .word-at2 .ensures)) (le-ltb _ _ (c .if3 .left))
+  subject-is : c .before .before .word-at .result ≡ word value 0
+  subject-is = c .before .before .word-at .ensures
 
-looked : (c : tie.After-is-given) → (let a = c .before .before .before .before .before .before .before .before .before .before .before .before .before .before .args in c .is-given .result ≡ given (found (take (a .so .far .subjects * rowBytes) (a .table .now)) (word (a .value .now) 0) (byte (a .value .now) 2)))
-looked c = rw (← (c .before .before .before .before .before .before .before .before .before .before .before .word-at .ensures), ← (c .before .before .before .before .before .before .before .before .byte-at .ensures)) (c .is-given .ensures)
+  known : leb (start .args .so .far .subjects) (word value 0) ≡ false
+  known = rw (← subject-is) (lt-leb _ _ (c .if1 .left))
+
+-- the slot is in its range
+module _ (c : tie.Else2) where
+  abbrev known-at : tie.Else1
+  known-at = c .before .before .before .before
+
+  slot-is : c .before .before .before .byte-at .result ≡ byte (value known-at) 2
+  slot-is = c .before .before .before .byte-at .ensures
+
+  ranged : not (within 1 slots (byte (value known-at) 2)) ≡ false
+  ranged = rw (← slot-is) (ap not (sym (rw (c .before .before .wide8 .ensures .0) at (c .before .within .ensures))) ∙ c .if2 .left)
+
+-- the score is not over the greatest
+module _ (c : tie.Else3) where
+  abbrev ranged-at : tie.Else2
+  ranged-at = c .before .before
+
+  score-is : c .before .word-at2 .result ≡ word (value (known-at ranged-at)) 3
+  score-is = c .before .word-at2 .ensures
+
+  low : ltb topScore (word (value (known-at ranged-at)) 3) ≡ false
+  low = rw (← score-is) (le-ltb _ _ (c .if3 .left))
+
+-- the slot has been looked up
+module _ (c : tie.After-is-given) where
+  abbrev low-at : tie.Else3
+  low-at = c .before .before .before
+
+  abbrev first : tie.Else1
+  first = known-at (ranged-at low-at)
+
+  looked : c .is-given .result ≡ given (found (take (start first .args .so .far .subjects * rowBytes) (start first .args .table .now)) (word (value first) 0) (byte (value first) 2))
+  looked = rw (← (subject-is first), ← (slot-is (ranged-at low-at))) (c .is-given .ensures)
 
 word-at-requires : tie.Need-word-at-requires
 word-at-requires c κs = search needs
@@ -58,7 +94,7 @@ word-at-requires-2 : tie.Need-word-at-requires-2
 word-at-requires-2 c κs = search needs
 
 returns-3 : tie.Need-returns-3
-returns-3 c = simp (known (c .before .before .before .before .before .before), ranged (c .before .before), ← (c .before .word-at2 .ensures), lt-ltb _ _ (c .if3 .taken)) (refl, tt)
+returns-3 c = let r = c .before .before in simp (known (known-at r), ranged r, ← (c .before .word-at2 .ensures), lt-ltb _ _ (c .if3 .taken)) (refl, tt)
 
 mul-end : tie.Need-mul-end
 mul-end c = search needs
@@ -67,7 +103,9 @@ slice-reshare-prefix-is-given : tie.Need-slice-reshare-prefix-is-given
 slice-reshare-prefix-is-given c = search needs
 
 slice-aggregate-is-given : tie.Need-slice-aggregate-is-given
-slice-aggregate-is-given c = let a = c .before .before .before .before .before .before .before .before .before .before .before .before .before .args in sym (length-take-le (a .so .far .subjects * rowBytes) (a .table .now) (omega (arith, c .before .before .before .before .before .before .before .before .before .before .before .before .before .pre .few, c .before .before .before .before .before .before .before .before .before .before .before .before .before .pre .table-long)))
+slice-aggregate-is-given c =
+    let s = start (known-at (ranged-at (c .before .before))) in
+    sym (length-take-le (s .args .so .far .subjects * rowBytes) (s .args .table .now) (omega (arith, s .pre .few, s .pre .table-long)))
 
 is-given-requires : tie.Need-is-given-requires
 is-given-requires c κs = search needs
@@ -76,7 +114,9 @@ same-length : tie.Need-same-length
 same-length c = search needs
 
 returns-4 : tie.Need-returns-4
-returns-4 c = simp (known (c .before .before .before .before .before .before .before .before .before .before), ranged (c .before .before .before .before .before .before), low (c .before .before .before .before), ← (looked (c .before)), c .if4 .taken) (refl, tt)
+returns-4 c =
+    let g = c .before in
+    simp (known (first g), ranged (ranged-at (low-at g)), low (low-at g), ← (looked g), c .if4 .taken) (refl, tt)
 
 store-requires : tie.Need-store-requires
 store-requires c κs = search needs
@@ -85,7 +125,10 @@ same-length-2 : tie.Need-same-length-2
 same-length-2 c = search needs
 
 returns-5 : tie.Need-returns-5
-returns-5 c = (simp (known (c .before .before .before .before .before .before .before .before .before .before .before .before .before .before), ranged (c .before .before .before .before .before .before .before .before .before .before), low (c .before .before .before .before .before .before .before .before), ← (looked (c .before .before .before .before .before)), c .before .before .before .before .if4 .left) refl, rw (← (c .before .before .before .before .before .before .before .before .before .before .before .before .before .before .before .before .word-at .ensures), ← (c .before .before .before .before .before .before .before .before .before .before .before .before .before .byte-at .ensures), ← (c .before .before .before .before .before .before .before .before .before .word-at2 .ensures)) (c .before .before .store .ensures))
+returns-5 c =
+    let g = c .before .before .before .before .before in
+    let l = low-at g in
+    (simp (known (first g), ranged (ranged-at l), low l, ← (looked g), c .before .before .before .before .if4 .left) refl, rw (← (subject-is (first g)), ← (slot-is (ranged-at l)), ← (score-is l)) (c .before .before .store .ensures))
 
 pub score-field-spec : {M : Type 1} → statement M
 score-field-spec =

@@ -1,4 +1,5 @@
-use Prim.Native.Nat.{_*_}
+use Prim.Native.Nat.{ℕ, _+_, _-_, _*_}
+use borrow.Rule.Slice.PartMut.{putMid}
 use mathlib.Core.Path.{_≡_, refl, sym, ap, _∙_}
 use mathlib.Core.Bool.{Bool}
 use lib.ListN.{length}
@@ -14,8 +15,27 @@ use Rattle.catalogue.proofs.entries.is_outside.Reads as is-outside-reads
 use Rattle.cohort.proofs.parts.copy.Reads as copy-reads
 use Rattle.scores.proofs.rows.clear.Reads as clear-reads
 
-tested : (c : tie.After-is-outside) → c .is-outside .result ≡ outside (entryAt (c .before .before .before .before .before .args .value .now) 0)
-tested c = c .is-outside .ensures ∙ ap outside (c .before .entry-at .ensures)
+-- the entry has been tested
+module _ (c : tie.After-is-outside) where
+  abbrev start : tie.Start
+  start = c .before .before .before .before .before
+
+  tested : c .is-outside .result ≡ outside (entryAt (start .args .value .now) 0)
+  tested = c .is-outside .ensures ∙ ap outside (c .before .entry-at .ensures)
+
+-- it is laid into the catalogue
+module _ (c : tie.After-copy) where
+  abbrev tested-at : tie.After-is-outside
+  tested-at = c .before .before .before
+
+  abbrev at : ℕ
+  at = start tested-at .args .so .far .subjects * entryBytes
+
+  entry-laid : putMid at (at + entryBytes - at) (start tested-at .args .catalogue .now) (c .copy .last .0) ≡ laid (start tested-at .args .catalogue .now) at (start tested-at .args .value .now)
+  entry-laid =
+      let old = start tested-at .args .catalogue .now in
+      let long : length (c .copy .last .0) ≡ entryBytes = ap length (c .copy .ensures) ∙ start tested-at .pre .long in
+      put-laid at entryBytes old (c .copy .last .0) long ∙ ap (laid old at) (c .copy .ensures)
 
 entry-at-requires : tie.Need-entry-at-requires
 entry-at-requires c κs = search needs
@@ -55,12 +75,8 @@ same-length-2 c = search needs
 
 returns-2 : tie.Need-returns-2
 returns-2 c =
-    let a = c .before .before .before .before .before .before .before .before .before .before .before .before .before .before .args in
-    let part = c .before .before .before .before .before .before .copy .last .0 in
-    let same = c .before .before .before .before .before .before .copy .ensures in
-    let at = a .so .far .subjects * entryBytes in
-    let long : length part ≡ entryBytes = ap length same ∙ c .before .before .before .before .before .before .before .before .before .before .before .before .before .before .pre .long in
-    (simp (← (tested (c .before .before .before .before .before .before .before .before .before)), c .before .before .before .before .before .before .before .before .if1 .left) refl, (put-laid at entryBytes (a .catalogue .now) part long ∙ ap (laid (a .catalogue .now) at) same, c .before .before .clear .ensures))
+    let d = c .before .before .before .before .before .before in
+    (simp (← (tested (tested-at d)), d .before .before .if1 .left) refl, (entry-laid d, c .before .before .clear .ensures))
 
 pub subject-field-spec : {M : Type 1} → statement M
 subject-field-spec =

@@ -14,15 +14,29 @@ use Rattle.fields.proofs.order.length_of.Reads as length-of-reads
 use Rattle.paper.proofs.ranges.within.Reads as within-reads
 use Rattle.paper.proofs.widening.wide8.Reads as wide8-reads
 
--- the tag is known, its length right, its order kept
-known : (c : tie.Else1) → not (within 1 6 (c .before .before .before .args .tag)) ≡ false
-known c = ap not (sym (rw (c .before .before .wide8 .ensures .0) at (c .before .within .ensures))) ∙ c .if1 .left
+-- the tag is known
+module _ (c : tie.Else1) where
+  abbrev start : tie.Start
+  start = c .before .before .before
 
-long : (c : tie.Else2) → eqb (c .before .before .before .before .before .args .length) (lengthOf (c .before .before .before .before .before .args .tag)) ≡ true
-long c = eq-eqb _ _ (c .if2 .left ∙ c .before .length-of .ensures)
+  known : not (within 1 6 (start .args .tag)) ≡ false
+  known = ap not (sym (rw (c .before .before .wide8 .ensures .0) at (c .before .within .ensures))) ∙ c .if1 .left
 
-ordered : (c : tie.Else3) → not (follows (c .before .before .before .before .before .before .before .args .far .last) (c .before .before .before .before .before .before .before .args .tag)) ≡ false
-ordered c = ap not (sym (c .before .follows .ensures)) ∙ c .if3 .left
+-- its length is right
+module _ (c : tie.Else2) where
+  abbrev known-at : tie.Else1
+  known-at = c .before .before
+
+  long : eqb (start known-at .args .length) (lengthOf (start known-at .args .tag)) ≡ true
+  long = eq-eqb _ _ (c .if2 .left ∙ c .before .length-of .ensures)
+
+-- its order is kept
+module _ (c : tie.Else3) where
+  abbrev long-at : tie.Else2
+  long-at = c .before .before
+
+  ordered : not (follows (start (known-at long-at) .args .far .last) (start (known-at long-at) .args .tag)) ≡ false
+  ordered = ap not (sym (c .before .follows .ensures)) ∙ c .if3 .left
 
 wide8-requires : tie.Need-wide8-requires
 wide8-requires c κs = search needs
@@ -43,16 +57,16 @@ follows-requires : tie.Need-follows-requires
 follows-requires c κs = search needs
 
 returns-3 : tie.Need-returns-3
-returns-3 c = simp (known (c .before .before .before .before), long (c .before .before), ← (c .before .follows .ensures), c .if3 .taken) refl
+returns-3 c = simp (known (known-at (c .before .before)), long (c .before .before), ← (c .before .follows .ensures), c .if3 .taken) refl
 
 is-full-requires : tie.Need-is-full-requires
 is-full-requires c κs = search needs
 
 returns-4 : tie.Need-returns-4
-returns-4 c = simp (known (c .before .before .before .before .before .before), long (c .before .before .before .before), ordered (c .before .before), ← (c .before .is-full .ensures), c .if4 .taken) refl
+returns-4 c = simp (known (known-at (long-at (c .before .before))), long (long-at (c .before .before)), ordered (c .before .before), ← (c .before .is-full .ensures), c .if4 .taken) refl
 
 returns-5 : tie.Need-returns-5
-returns-5 c = simp (known (c .before .before .before .before .before .before), long (c .before .before .before .before), ordered (c .before .before), ← (c .before .is-full .ensures), c .if4 .left) refl
+returns-5 c = simp (known (known-at (long-at (c .before .before))), long (long-at (c .before .before)), ordered (c .before .before), ← (c .before .is-full .ensures), c .if4 .left) refl
 
 pub judge-spec : {M : Type 1} → statement M
 judge-spec =
