@@ -30,9 +30,9 @@ marked mask i belongs = if belongs then bitOr mask (1 * 2 ^ i % 65536) else mask
 abbrev pub unmarked : Masks
 unmarked = record { usable = 0; passes = 0; general = 0; «general_english» = 0; «applied_english» = 0; «general_maths» = 0; «applied_maths» = 0 }
 
--- masks, i, result i, assessment year: the masks with result i
-abbrev pub withOne : Masks → ℕ → Result → ℕ → Masks
-withOne masks i r year = record {
+-- masks, i, assessment year, result i: the masks with result i
+abbrev pub withOne : Masks → ℕ → ℕ → Result → Masks
+withOne masks i year r = record {
   usable = marked (masks .usable) i (usable year r);
   passes = marked (masks .passes) i (passes year r);
   general = marked (masks .general) i (ofGeneral r);

@@ -27,7 +27,7 @@ use Rattle.curve.specs.Curve.{lower, upper, entry, tableOf}
 use Rattle.ranks.specs.Ranking.{ranksOf, percentilesOf}
 use Rattle.tally.specs.Places.{places, bandUpTo}
 use Rattle.bands.specs.Placing.{remainder}
-use Rattle.bands.specs.Search.{bandsOf}
+use Rattle.bands.specs.Bands.{bandsOf}
 use Rattle.cohort.specs.Fields.{Field, whole, fieldsOf}
 use Rattle.cohort.specs.Held.{Held, nothing}
 use Rattle.cohort.specs.Judging.{holdsId}

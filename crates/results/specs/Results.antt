@@ -28,14 +28,14 @@ resultOf catalogue results i = record {
   entry = entryAt catalogue (subjectOf results i);
 }
 
--- a student's results, the catalogue that they name, and the assessment year
+-- the catalogue that a student's results name, the assessment year, and the results
 pub record Student : Type 0 where
   pub catalogue : List ℕ
-  pub results : List ℕ
   pub year : ℕ
+  pub results : List ℕ
 
-abbrev pub student : List ℕ → List ℕ → ℕ → Student
-student catalogue results year = record { catalogue = catalogue; results = results; year = year }
+abbrev pub student : List ℕ → ℕ → List ℕ → Student
+student catalogue year results = record { catalogue = catalogue; year = year; results = results }
 
 -- how many results a student has, and result i
 abbrev pub held : Student → ℕ

@@ -45,7 +45,7 @@ pub extern "C" fn shtegomir_best_set(
     year: u32,
     results: &[u8],
 ) -> Best
-    ensures { λ r. ⌜ BestCalled (student (now (catalogue .entry)) (now (results .entry)) year) (now (table .entry)) r ⌝ }
+    ensures { λ r. ⌜ BestCalled (student (now (catalogue .entry)) year (now (results .entry))) (now (table .entry)) r ⌝ }
 {
-    flatten(bestset::best_set(catalogue, table, results, year as u64))
+    flatten(bestset::best_set(catalogue, table, year as u64, results))
 }

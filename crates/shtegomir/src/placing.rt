@@ -57,7 +57,7 @@ pub extern "C" fn shtegomir_place_tally(
     bands: &mut [u16],
     counts: &mut [u32],
 ) -> Placed
-    ensures { λ r. ⌜ TallyCalled (now (aggregates .entry)) (now (table .entry)) population (lent (now (counts .entry)) (now (bands .entry))) r (lent (now (counts .exit)) (now (bands .exit))) ⌝ }
+    ensures { λ r. ⌜ TallyCalled (now (aggregates .entry)) (now (table .entry)) population (lent (now (bands .entry)) (now (counts .entry))) r (lent (now (bands .exit)) (now (counts .exit))) ⌝ }
 {
-    flatten(bands::place_by_tally(aggregates, table, population, counts, bands))
+    flatten(bands::place_by_tally(aggregates, table, population, bands, counts))
 }

@@ -8,17 +8,17 @@ use Rattle.bestset.proofs.repeats.kept_of.Reads as kept-of-reads
 use Rattle.seek.proofs.packing.pack.Reads as pack-reads
 use Rattle.seek.proofs.search.search.Reads as search-reads
 
-answered : (c : tie.After-search) → let g = c .before .before .before .before .before .before .before .before .before .before .before .args in Answered (student (g .catalogue .now) (g .results .now) (g .year)) (g .table .now) (outcome (c .search .result))
+answered : (c : tie.After-search) → let g = c .before .before .before .before .before .before .before .before .before .before .before .args in Answered (student (g .catalogue .now) (g .year) (g .results .now)) (g .table .now) (outcome (c .search .result))
 answered c =
     let g = c .before .before .before .before .before .before .before .before .before .before .before .args in
     let p = c .before .before .before .before .before .before .before .before .before .before .before .pre in
     let k = c .before .before .before .before .kept-of in
-    let s = student (g .catalogue .now) (g .results .now) (g .year) in
+    let s = student (g .catalogue .now) (g .year) (g .results .now) in
     let test = test-of s (g .table .now) (g .read) (k .result) _ (few-held s (g .table .now) (p .0)) (p .1) (k .ensures) (c .before .before .pack .ensures) in
     found-answered _ _ (p .0) (testOf (g .read) (k .result) (c .before .before .pack .result)) test (g .read .scores) (p .1 .scores-are) (c .search .result) (c .search .ensures)
 
 kept-of-requires : tie.Need-kept-of-requires
-kept-of-requires c κs = few-held (student (c .before .before .before .before .before .before .args .catalogue .now) (c .before .before .before .before .before .before .args .results .now) (c .before .before .before .before .before .before .args .year)) (c .before .before .before .before .before .before .args .table .now) (c .before .before .before .before .before .before .pre .0)
+kept-of-requires c κs = few-held (student (c .before .before .before .before .before .before .args .catalogue .now) (c .before .before .before .before .before .before .args .year) (c .before .before .before .before .before .before .args .results .now)) (c .before .before .before .before .before .before .args .table .now) (c .before .before .before .before .before .before .pre .0)
 
 pack-requires : tie.Need-pack-requires
 pack-requires c κs = search needs
@@ -28,7 +28,7 @@ search-requires c κs =
     let g = c .before .before .before .before .before .before .before .before .before .before .args in
     let p = c .before .before .before .before .before .before .before .before .before .before .pre in
     let k = c .before .before .before .kept-of in
-    let s = student (g .catalogue .now) (g .results .now) (g .year) in
+    let s = student (g .catalogue .now) (g .year) (g .results .now) in
     let test = test-of s (g .table .now) (g .read) (k .result) _ (few-held s (g .table .now) (p .0)) (p .1) (k .ensures) (c .before .pack .ensures) in
     sought s (g .table .now) (p .0) (testOf (g .read) (k .result) (c .before .pack .result)) test (g .read .scores) (p .1 .scores-are)
 

@@ -23,10 +23,10 @@ use Rattle.results.proofs.scoring.slot_of.Reads as slot-of-reads
 
 -- the results before i are read: their masks, and their scores and identities by position
 abbrev Inv-loop : tie.InvT-loop
-Inv-loop catalogue table results year masks₀ scores₀ identities₀ i₀ masks scores identities i = (i ≤ heldIn results) × (length scores ≡ mostResults) × (length identities ≡ mostResults) × Masked (student catalogue results year) i masks × ByPosition (scoreAt (student catalogue results year) table) i scores × ByPosition (identityAt (student catalogue results year)) i identities
+Inv-loop catalogue table year results masks₀ scores₀ identities₀ i₀ masks scores identities i = (i ≤ heldIn results) × (length scores ≡ mostResults) × (length identities ≡ mostResults) × Masked (student catalogue year results) i masks × ByPosition (scoreAt (student catalogue year results) table) i scores × ByPosition (identityAt (student catalogue year results)) i identities
 
 abbrev μ-loop : tie.MeasureT-loop
-μ-loop catalogue table results year masks₀ scores₀ identities₀ i₀ masks scores identities i = heldIn results - i
+μ-loop catalogue table year results masks₀ scores₀ identities₀ i₀ masks scores identities i = heldIn results - i
 
 unmarked-requires : tie.Need-unmarked-requires Inv-loop μ-loop
 unmarked-requires c κs = search needs
@@ -71,11 +71,11 @@ loop-again : tie.Need-loop-again Inv-loop μ-loop
 unfolding score
 loop-again c =
     let a = c .before .before .before .before .before .before .before .before .before .before .before .args in
-    let s = student (a .catalogue .now) (a .results .now) (a .year) in
+    let s = student (a .catalogue .now) (a .year) (a .results .now) in
     let i = c .before .before .before .before .before .before .loop .i in
     let inv = c .before .before .before .before .before .before .loop .inv in
     let few = c .before .before .before .before .before .before .before .before .before .before .before .pre in
-    let masks : c .before .before .before .with-one .result ≡ withOne (c .before .before .before .before .before .before .loop .masks) i (result s i) (a .year) = c .before .before .before .with-one .ensures ∙ ap (λ (r : Result). withOne (c .before .before .before .before .before .before .loop .masks) i r (a .year)) (c .before .before .before .before .result-at .ensures) in
+    let masks : c .before .before .before .with-one .result ≡ withOne (c .before .before .before .before .before .before .loop .masks) i (a .year) (result s i) = c .before .before .before .with-one .ensures ∙ ap (λ (r : Result). withOne (c .before .before .before .before .before .before .loop .masks) i (a .year) r) (c .before .before .before .before .result-at .ensures) in
     let worths : c .before .score-of .result ≡ scoreAt s (a .table .now) i = c .before .score-of .ensures ∙ ap worth (c .before .before .slot-of .ensures) ∙ ap (λ (r : Result). score (a .table .now) r) (c .before .before .before .before .result-at .ensures) in
     let own : c .identity-of .result ≡ identityAt s i = c .identity-of .ensures ∙ ap ownIdentity (c .before .before .before .before .result-at .ensures) in (
       omega arith,
@@ -89,7 +89,7 @@ loop-again c =
 returns : tie.Need-returns Inv-loop μ-loop
 returns c =
     let a = c .before .before .before .before .before .before .args in
-    let s = student (a .catalogue .now) (a .results .now) (a .year) in
+    let s = student (a .catalogue .now) (a .year) (a .results .now) in
     let inv = c .before .loop .inv in
     let e : c .before .loop .i ≡ heldIn (a .results .now) = omega arith in
     record {
