@@ -1,4 +1,3 @@
--- Below i the bands are those found at the aggregates.
 use Rattle.bands.specs.Inner.{readOf}
 use Rattle.paper.proofs.Filling.{Filled, none-filled, next-filled, all-filled}
 use lib.ListN.{length, getD}
@@ -9,6 +8,7 @@ use borrow.Author.Needs.{needs}
 use Rattle.bands.proofs.by_tally.read.Statement.{statement}
 use Rattle.bands.proofs.by_tally.read.Tie as tie
 
+-- below i the bands are those found at the aggregates
 abbrev Inv-loop : tie.InvT-loop
 Inv-loop aggregates found bands₀ i₀ bands i = Filled (length aggregates) (λ j. getD found (getD aggregates j 0) 0) i bands
 
