@@ -13,6 +13,7 @@ use Rattle.results.specs.Results.{heldIn, subjectOf, yearOf, Student, held, res
 use Rattle.results.specs.Counting.{ofGeneral, ofApplied, ofStrand, generalAt, appliedAt, strandAt, usable, passes, passesAt, usableAt}
 use Rattle.results.specs.Scoring.{scoreAt, identityAt}
 use Rattle.results.specs.declared.reading.Result.{Result}
+use Rattle.bestset.specs.Promise.{WellFormed}
 use Rattle.bestset.specs.declared.marks.Masks.{Masks}
 use Rattle.bestset.specs.declared.marks.Read.{Read}
 
@@ -62,6 +63,11 @@ pub record AllRead (s : Student) (table : List ℕ) (read : Read) : Type 0 where
   pub masks-are : Masked s (held s) (read .masks)
   pub scores-are : ByPosition (scoreAt s table) (held s) (read .scores)
   pub identities-are : ByPosition (identityAt s) (held s) (read .identities)
+
+-- what choosing asks: a well-formed student, and all results read
+pub record Choosable (s : Student) (table : List ℕ) (read : Read) : Type 0 where
+  pub formed : WellFormed s table
+  pub all : AllRead s table read
 
 -- results, the mask of the usable ones, i, j: result j is usable, of the same subject as result i; and in a later year; in the same year
 abbrev pub sameSubjectIn : List ℕ → ℕ → ℕ → ℕ → Bool

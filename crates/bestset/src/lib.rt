@@ -1,7 +1,7 @@
 // One student: the best set of five results, or why there is none.
 ghost use Rattle.results.specs.Results.{student};
-ghost use Rattle.bestset.specs.Promise.{said, WellFormed, Answered, Promise};
-ghost use Rattle.bestset.specs.InnerMarks.{AllRead};
+ghost use Rattle.bestset.specs.Promise.{said, Answered, Promise};
+ghost use Rattle.bestset.specs.InnerMarks.{Choosable};
 ghost use Rattle.bestset.specs.InnerJudging.{Readable};
 use crate::marks::Read;
 use paper::limits::RESULT_BYTES;
@@ -24,7 +24,7 @@ pub enum Answer {
 
 // The best set of a well-formed student, from what is read of the results.
 fn choose(catalogue: &[u8], table: &[u8], year: u64, results: &[u8], read: Read) -> Answer
-    requires { ⌜ WellFormed (student (now catalogue) year (now results)) (now table) × AllRead (student (now catalogue) year (now results)) (now table) read ⌝ }
+    requires { ⌜ Choosable (student (now catalogue) year (now results)) (now table) read ⌝ }
     ensures { λ r. ⌜ Answered (student (now (catalogue .entry)) year (now (results .entry))) (now (table .entry)) (said r) ⌝ }
 {
     let masks = read.masks;
