@@ -130,7 +130,7 @@ sets-again c =
 with-fourth-requires : tie.Need-with-fourth-requires Inv-back μ-back Inv-sets μ-sets
 with-fourth-requires c κs =
     let s = c .before .before in
-    (s .before .pre, c .if4 .taken, s .sets .inv .1)
+    record { sought = s .before .pre; count = c .if4 .taken; stands = s .sets .inv .1 }
 
 back-holds : tie.Need-back-holds Inv-back μ-back Inv-sets μ-sets
 back-holds c =
