@@ -287,6 +287,15 @@ static void race_report(const char *job, size_t students)
     same("report", text, text_plain, sizeof text);
 }
 
+/* Every student refused, 8: the fifth of five subjects gets the identity of the fourth. */
+static void refuse_all(void)
+{
+    static const char nobody[] = "cohort 512 eligible 0 remainder 0\n1 refused 8 0\n";
+    file[5 + 8 * 4 + 7] = 4;
+    report_by_proof();
+    same("refused students", text, nobody, sizeof nobody - 1);
+}
+
 static void race_reports(void)
 {
     FILE *source = fopen("tests/cohorts/students-512.cohort", "rb");
@@ -294,6 +303,8 @@ static void race_reports(void)
     if (source == NULL || fclose(source) != 0)
         differ = 1;
     race_report("report, students of 5 results", 512);
+    refuse_all();
+    race_report("report, refused students of 5 results", 512);
     make_students(16);
     race_report("report, students of 16 results", make_full_file());
 }

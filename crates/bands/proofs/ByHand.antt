@@ -15,7 +15,7 @@ use Rattle.tally.specs.Counts.{numberAt}
 use Rattle.tally.specs.Places.{places, bandUpTo}
 use Rattle.tally.specs.Examples.{full}
 use Rattle.bands.specs.Placing.{remainder}
-use Rattle.bands.specs.Search.{bandsOf}
+use Rattle.bands.specs.Bands.{bandsOf}
 use Rattle.bands.specs.Promise.{ruling, Lent, lent, tallyRuling}
 
 -- 400.00, 400.00, 300.00
@@ -86,6 +86,6 @@ nobody = (rw (full-within, within .2) refl, refl)
 pub too-many : (aggregates table : List ℕ) (Y : ℕ) (before : Lent) → mostTallied < length aggregates → tallyRuling aggregates table Y before ≡ refused (2 at mostTallied)
 too-many aggregates table Y before h = simp (lt-ltb mostTallied (length aggregates) h) refl
 
-pub no-counts : tallyRuling three full 0 (lent [] (0 ∷ 0 ∷ 0 ∷ [])) ≡ refused (11 at 0)
+pub no-counts : tallyRuling three full 0 (lent (0 ∷ 0 ∷ 0 ∷ []) []) ≡ refused (11 at 0)
 unfolding full
 no-counts = refl

@@ -16,7 +16,7 @@ use Rattle.tally.specs.InnerTally.{sumsOf, bandsBy, leftAt, remainderBy}
 use Rattle.tally.proofs.Counting.{at-split, gathered}
 use Rattle.tally.proofs.Tallies.{sums-long, walked-at, tally-exists, tally-sums}
 use Rattle.bands.specs.Placing.{remainder}
-use Rattle.bands.specs.Search.{bandsOf}
+use Rattle.bands.specs.Bands.{bandsOf}
 use Rattle.bands.specs.Inner.{readOf}
 
 module _ (xs : List ℕ) (w : Aggregates xs) (table : List ℕ) (Y : ℕ) where

@@ -15,9 +15,9 @@ use Rattle.paper.proofs.Ruled.{refusal-fault, Unbroken, kept-parts, Tabled, tab
 use Rattle.tally.specs.Counts.{tallyOf}
 use Rattle.tally.proofs.Tallies.{tally-exists, tally-once}
 use Rattle.bands.specs.Placing.{BestPlacement, remainder}
-use Rattle.bands.specs.Search.{bandsOf}
+use Rattle.bands.specs.Bands.{bandsOf}
 use Rattle.bands.specs.Promise.{said, sizeRules, countsRule, tableRules, aggregateRules, directRules, ruling, Promise, Lent, lent, tallyRules, tallyRuling, Placed, TallyPromise, answer, left, tallyLeft}
-use Rattle.bands.specs.Inner.{Ready}
+use Rattle.bands.specs.Inner.{Ready, TallyReady}
 use Rattle.bands.specs.declared.Answer.{Answer}
 use Rattle.bands.specs.declared.Answer.the-variants.{Accepted, Refused}
 use Rattle.bands.proofs.Placed.{best-exists, best-once}
@@ -53,13 +53,13 @@ module _ (aggregates table : List ℕ) (Y : ℕ) (before : List ℕ) where
 
 -- by tally the same of both buffers
 module _ (aggregates table : List ℕ) (Y : ℕ) (before : Lent) where
-  pub tally-owes : Owes (λ n. Placed aggregates table Y) (tallyRuling aggregates table Y before) (λ n. lent (tallyOf aggregates) (bandsOf aggregates table Y))
+  pub tally-owes : Owes (λ n. Placed aggregates table Y) (tallyRuling aggregates table Y before) (λ n. lent (bandsOf aggregates table Y) (tallyOf aggregates))
   tally-owes = record {
     met = λ n e. record { best = best-exists aggregates table Y; tallied = tally-exists aggregates };
     only = λ n b x.
         let counts = tally-once aggregates (b .counts) (tallyOf aggregates) (x .tallied) (tally-exists aggregates) in
         let bands = best-once aggregates table Y (b .bands) (bandsOf aggregates table Y) (x .best) (best-exists aggregates table Y) in
-        λ i. lent (counts i) (bands i);
+        λ i. lent (bands i) (counts i);
   }
 
   pub tally-meets : let o = tallyRuling aggregates table Y before in TallyPromise aggregates table Y before (answer o) (tallyLeft aggregates table Y before o)
@@ -98,7 +98,7 @@ direct-ready aggregates table Y bands h =
     ready mostStudents aggregates table Y bands (omega arith) (k .0) (k .1)
 
 pub tally-ready : (aggregates table : List ℕ) (Y : ℕ) (bands counts : List ℕ) → Unbroken (tallyRules aggregates table Y (length bands) (length counts))
-    → Ready aggregates table Y bands × (length counts ≡ tallyCount)
+    → TallyReady aggregates table Y bands counts
 tally-ready aggregates table Y bands counts h =
     let k = kept-parts (sizeRules mostTallied (length aggregates) (length table) (length bands)) (countsRule (length counts) ∷ tableRules Y table ++ aggregateRules aggregates) h in
-    (ready mostTallied aggregates table Y bands (omega arith) (k .0) (k .1 .1), eqb-true (length counts) tallyCount (not-false _ (k .1 .0)))
+    record { ready = ready mostTallied aggregates table Y bands (omega arith) (k .0) (k .1 .1); long = eqb-true (length counts) tallyCount (not-false _ (k .1 .0)) }

@@ -14,7 +14,7 @@ use Rattle.tally.specs.Places.{places}
 use Rattle.tally.specs.Examples.{full}
 use Rattle.tally.proofs.Reaching.{none-fit}
 use Rattle.tally.proofs.Tallies.{tally-exists}
-use Rattle.bands.specs.Search.{bandsOf}
+use Rattle.bands.specs.Bands.{bandsOf}
 use Rattle.bands.specs.Promise.{ruling, Promise, Lent, lent, tallyRuling, TallyPromise}
 use Rattle.bands.specs.declared.Answer.{Answer}
 use Rattle.bands.specs.declared.Answer.the-variants.{Accepted, Refused}
@@ -34,7 +34,7 @@ three-ruled : (a b c : ℕ) → ruling three full 2000 (a ∷ b ∷ c ∷ []) �
 unfolding full
 three-ruled a b c = rw (full-within, within .0) (ap accepted (remainders .0))
 
-tally-ruled : (counts : List ℕ) (a b c : ℕ) → length counts ≡ tallyCount → tallyRuling three full 2000 (lent counts (a ∷ b ∷ c ∷ [])) ≡ accepted 0
+tally-ruled : (counts : List ℕ) (a b c : ℕ) → length counts ≡ tallyCount → tallyRuling three full 2000 (lent (a ∷ b ∷ c ∷ []) counts) ≡ accepted 0
 unfolding full
 tally-ruled counts a b c l = rw (eq-eqb (length counts) tallyCount l, full-within, within .0) (ap accepted (remainders .0))
 
@@ -53,10 +53,10 @@ only-two a b r after h =
 
 -- by tally the same, and no entry left as a sum or as a band
 pub only-three-by-tally : (counts : List ℕ) → length counts ≡ tallyCount → (a b c : ℕ) (r : Answer) (after : Lent)
-    → TallyPromise three full 2000 (lent counts (a ∷ b ∷ c ∷ [])) r after
+    → TallyPromise three full 2000 (lent (a ∷ b ∷ c ∷ []) counts) r after
     → (r ≡ Accepted 0) × (after .bands ≡ 1998 ∷ 1998 ∷ 1997 ∷ []) × (getD (after .counts) 40000 0 ≡ 2) × (getD (after .counts) 30000 0 ≡ 1) × (getD (after .counts) 35000 0 ≡ 0)
 only-three-by-tally counts l a b c r after h =
-    let o = only-as tells rules-is (tally-owes three full 2000 (lent counts (a ∷ b ∷ c ∷ []))) (tally-ruled counts a b c l) h in
+    let o = only-as tells rules-is (tally-owes three full 2000 (lent (a ∷ b ∷ c ∷ []) counts)) (tally-ruled counts a b c l) h in
     let w = tally-exists three in (
       o .0,
       ap (λ (l : Lent). l .bands) (o .1) ∙ bands .0,
@@ -70,7 +70,7 @@ zero-ruled : (a b c : ℕ) → ruling three full 0 (a ∷ b ∷ c ∷ []) ≡ re
 unfolding full
 zero-ruled a b c = refl
 
-zero-tally-ruled : (counts : List ℕ) (a b c : ℕ) → length counts ≡ tallyCount → tallyRuling three full 0 (lent counts (a ∷ b ∷ c ∷ [])) ≡ refused (9 at 0)
+zero-tally-ruled : (counts : List ℕ) (a b c : ℕ) → length counts ≡ tallyCount → tallyRuling three full 0 (lent (a ∷ b ∷ c ∷ []) counts) ≡ refused (9 at 0)
 unfolding full
 zero-tally-ruled counts a b c l = rw (eq-eqb (length counts) tallyCount l) refl
 
@@ -78,5 +78,5 @@ pub only-refused : (a b c : ℕ) (r : Answer) (after : List ℕ) → Promise thr
 only-refused a b c r after h = only-as tells rules-is (owes three full 0 (a ∷ b ∷ c ∷ [])) (zero-ruled a b c) h
 
 pub only-refused-by-tally : (counts : List ℕ) → length counts ≡ tallyCount → (a b c : ℕ) (r : Answer) (after : Lent)
-    → let before = lent counts (a ∷ b ∷ c ∷ []) in TallyPromise three full 0 before r after → (r ≡ Refused (WrongPopulation 0)) × (after ≡ before)
-only-refused-by-tally counts l a b c r after h = only-as tells rules-is (tally-owes three full 0 (lent counts (a ∷ b ∷ c ∷ []))) (zero-tally-ruled counts a b c l) h
+    → let before = lent (a ∷ b ∷ c ∷ []) counts in TallyPromise three full 0 before r after → (r ≡ Refused (WrongPopulation 0)) × (after ≡ before)
+only-refused-by-tally counts l a b c r after h = only-as tells rules-is (tally-owes three full 0 (lent (a ∷ b ∷ c ∷ []) counts)) (zero-tally-ruled counts a b c l) h

@@ -12,7 +12,7 @@ use Rattle.paper.specs.Words.{_<?_, _≠?_}
 use Rattle.paper.specs.Promises.{Promised, Is, answered, filled}
 use Rattle.tally.specs.Counts.{Tallied, tallyOf}
 use Rattle.bands.specs.Placing.{BestPlacement, remainder}
-use Rattle.bands.specs.Search.{bandsOf}
+use Rattle.bands.specs.Bands.{bandsOf}
 use Rattle.bands.specs.declared.Answer.{Answer}
 use Rattle.bands.specs.declared.Answer.the-variants.{Accepted, Refused}
 
@@ -61,11 +61,11 @@ Promise aggregates table Y before r after = Promised said (Is (ruling aggregates
 
 -- by tally up to 100000 students, with a lent buffer of 50001 counts: the content of both buffers
 pub record Lent : Type 0 where
-  pub counts : List ℕ
   pub bands : List ℕ
+  pub counts : List ℕ
 
 abbrev pub lent : List ℕ → List ℕ → Lent
-lent counts bands = record { counts = counts; bands = bands }
+lent bands counts = record { bands = bands; counts = counts }
 
 -- aggregates, table, Y, how many bands and how many counts are lent
 abbrev pub tallyRules : List ℕ → List ℕ → ℕ → ℕ → ℕ → List Rule
@@ -92,4 +92,4 @@ abbrev pub left : List ℕ → List ℕ → ℕ → List ℕ → Outcome ℕ →
 left aggregates table Y = filled (λ n. bandsOf aggregates table Y)
 
 abbrev pub tallyLeft : List ℕ → List ℕ → ℕ → Lent → Outcome ℕ → Lent
-tallyLeft aggregates table Y = filled (λ n. lent (tallyOf aggregates) (bandsOf aggregates table Y))
+tallyLeft aggregates table Y = filled (λ n. lent (bandsOf aggregates table Y) (tallyOf aggregates))

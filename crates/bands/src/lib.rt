@@ -30,15 +30,15 @@ pub fn place_by_tally(
     aggregates: &[u32],
     table: &[u32],
     population: u32,
-    counts: &mut [u32],
     bands: &mut [u16],
+    counts: &mut [u32],
 ) -> Answer
-    ensures { λ r. ⌜ TallyPromise (now (aggregates .entry)) (now (table .entry)) population (lent (now (counts .entry)) (now (bands .entry))) r (lent (now (counts .exit)) (now (bands .exit))) ⌝ }
+    ensures { λ r. ⌜ TallyPromise (now (aggregates .entry)) (now (table .entry)) population (lent (now (bands .entry)) (now (counts .entry))) r (lent (now (bands .exit)) (now (counts .exit))) ⌝ }
 {
     let screened = screening::by_tally(aggregates, table, population, bands.len(), counts.len());
     if let Verdict::Refused(x) = screened {
         return Answer::Refused(x);
     }
-    let remainder = by_tally::place_all(aggregates, table, population, counts, bands);
+    let remainder = by_tally::place_all(aggregates, table, population, bands, counts);
     Answer::Accepted { remainder }
 }

@@ -28,7 +28,7 @@ unfolding slots first word inTurn outside found slotOf onesFrom sumOver countOve
 students = (refl, refl, refl)
 
 abbrev pub best : List ℕ → Outcome Values
-best results = computed (student catalogue2 results 2021) table2
+best results = computed (student catalogue2 2021 results) table2
 
 -- six Generals at 50.00, one an English C: positions 0 to 4
 pub generals : best (result 0 letterC 50 (result 1 letterB 50 (three (result 8 letterB 50 [])))) ≡ gives 25000 31
@@ -54,8 +54,8 @@ unfolding slots first word inTurn outside found slotOf onesFrom sumOver countOve
 rules = (refl, refl, refl, refl, refl, refl, refl, refl)
 
 -- 1 of the catalogue before all else; 11 before 14; 14 before the results' 1; 2 at 16; of two results 3, 4, 5 in turn; 6 at the later one
-pub refusals : (computed (student (0 ∷ []) [] 0) [] ≡ refused (1 at 0)) × (computed (student catalogue2 (0 ∷ []) 0) [] ≡ refused (11 at 0))
-    × (computed (student catalogue2 (0 ∷ []) 1983) table2 ≡ refused (14 at 0)) × (computed (student catalogue2 (0 ∷ []) 10000) table2 ≡ refused (14 at 0))
+pub refusals : (computed (student (0 ∷ []) 0 []) [] ≡ refused (1 at 0)) × (computed (student catalogue2 0 (0 ∷ [])) [] ≡ refused (11 at 0))
+    × (computed (student catalogue2 1983 (0 ∷ [])) table2 ≡ refused (14 at 0)) × (computed (student catalogue2 10000 (0 ∷ [])) table2 ≡ refused (14 at 0))
     × (best (result 0 letterB 50 (0 ∷ [])) ≡ refused (1 at 1)) × (best (replicate 102 0) ≡ refused (2 at mostResults))
     × (best (result 0 letterB 50 (result 9 letterB 50 [])) ≡ refused (3 at 1)) × (best (result 0 70 50 (result 9 letterB 50 [])) ≡ refused (4 at 0))
     × (best (result 0 letterB 50 (result 6 letterY 1 [])) ≡ refused (4 at 1)) × (best (dated 0 letterB 50 1979 []) ≡ refused (4 at 0)) × (best (dated 0 letterB 50 2022 []) ≡ refused (4 at 0))
@@ -65,7 +65,7 @@ refusals = (refl, refl, refl, refl, refl, refl, refl, refl, refl, refl, refl, re
 
 -- one subject and one result: its slot holds 10000, 10001, or is missing
 abbrev pub oneRow : ℕ → Outcome Values
-oneRow score = computed (student (1 ∷ 1 ∷ 0 ∷ 0 ∷ 1 ∷ []) (result 0 letterC 50 []) 2021) (oneScore 50 score)
+oneRow score = computed (student (1 ∷ 1 ∷ 0 ∷ 0 ∷ 1 ∷ []) 2021 (result 0 letterC 50 [])) (oneScore 50 score)
 
 pub slot : (oneRow 10000 ≡ refused (8 at 0)) × (oneRow 10001 ≡ refused (5 at 0)) × (oneRow missing ≡ refused (5 at 0))
 unfolding slots first word inTurn outside found slotOf onesFrom sumOver countOver scoreFound score usable usableAt showsEnglish kept wrong unscored repeated admissible earlier chosen

@@ -22,5 +22,5 @@ pub student-9 : (r : Answer) → Promise nine table r → r ≡ Refused NoSet
 student-9 r h = only nine table h ∙ ap answer (students .2)
 
 -- English sought only in the five would refuse this student
-pub english-outside : (r : Answer) → Promise (student catalogue2 english10 2021) table2 r → r ≡ Accepted 25000 62
-english-outside r h = only (student catalogue2 english10 2021) table2 h ∙ ap answer outside-five
+pub english-outside : (r : Answer) → Promise (student catalogue2 2021 english10) table2 r → r ≡ Accepted 25000 62
+english-outside r h = only (student catalogue2 2021 english10) table2 h ∙ ap answer outside-five

@@ -50,16 +50,16 @@ with e m b c more = result 0 letterB e (result 1 letterB m (result 2 letterB b (
 
 -- student 7 has Physics 40, student 8 Hospitality B, student 11 Physics 40 and no Essential Mathematics
 abbrev pub seven : Student
-seven = student catalogue (with 70 90 80 75 (result 5 letterB 40 [])) 2021
+seven = student catalogue 2021 (with 70 90 80 75 (result 5 letterB 40 []))
 
 abbrev pub eight : Student
-eight = student catalogue (with 50 90 80 75 (result 6 letterB 0 [])) 2021
+eight = student catalogue 2021 (with 50 90 80 75 (result 6 letterB 0 []))
 
 abbrev pub nine : Student
-nine = student catalogue (with 70 60 80 75 []) 2021
+nine = student catalogue 2021 (with 70 60 80 75 [])
 
 abbrev pub eleven : Student
-eleven = student catalogue (result 0 letterB 70 (result 1 letterB 90 (result 2 letterB 80 (result 3 letterB 75 (result 5 letterB 40 []))))) 2021
+eleven = student catalogue 2021 (result 0 letterB 70 (result 1 letterB 90 (result 2 letterB 80 (result 3 letterB 75 (result 5 letterB 40 [])))))
 
 -- English, Biology, its external examination, Chemistry, Physics, Geography, a Certificate III, a Certificate II, and History
 abbrev pub catalogue2 : List ℕ

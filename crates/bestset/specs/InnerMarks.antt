@@ -13,6 +13,7 @@ use Rattle.results.specs.Results.{heldIn, subjectOf, yearOf, Student, held, res
 use Rattle.results.specs.Counting.{ofGeneral, ofApplied, ofStrand, generalAt, appliedAt, strandAt, usable, passes, passesAt, usableAt}
 use Rattle.results.specs.Scoring.{scoreAt, identityAt}
 use Rattle.results.specs.declared.reading.Result.{Result}
+use Rattle.bestset.specs.Promise.{WellFormed}
 use Rattle.bestset.specs.declared.marks.Masks.{Masks}
 use Rattle.bestset.specs.declared.marks.Read.{Read}
 
@@ -30,9 +31,9 @@ marked mask i belongs = if belongs then bitOr mask (1 * 2 ^ i % 65536) else mask
 abbrev pub unmarked : Masks
 unmarked = record { usable = 0; passes = 0; general = 0; «general_english» = 0; «applied_english» = 0; «general_maths» = 0; «applied_maths» = 0 }
 
--- masks, i, result i, assessment year: the masks with result i
-abbrev pub withOne : Masks → ℕ → Result → ℕ → Masks
-withOne masks i r year = record {
+-- masks, i, assessment year, result i: the masks with result i
+abbrev pub withOne : Masks → ℕ → ℕ → Result → Masks
+withOne masks i year r = record {
   usable = marked (masks .usable) i (usable year r);
   passes = marked (masks .passes) i (passes year r);
   general = marked (masks .general) i (ofGeneral r);
@@ -62,6 +63,11 @@ pub record AllRead (s : Student) (table : List ℕ) (read : Read) : Type 0 where
   pub masks-are : Masked s (held s) (read .masks)
   pub scores-are : ByPosition (scoreAt s table) (held s) (read .scores)
   pub identities-are : ByPosition (identityAt s) (held s) (read .identities)
+
+-- what choosing asks: a well-formed student, and all results read
+pub record Choosable (s : Student) (table : List ℕ) (read : Read) : Type 0 where
+  pub formed : WellFormed s table
+  pub all : AllRead s table read
 
 -- results, the mask of the usable ones, i, j: result j is usable, of the same subject as result i; and in a later year; in the same year
 abbrev pub sameSubjectIn : List ℕ → ℕ → ℕ → ℕ → Bool

@@ -1,7 +1,7 @@
 // One student: the best set of five results, or why there is none.
 ghost use Rattle.results.specs.Results.{student};
-ghost use Rattle.bestset.specs.Promise.{said, WellFormed, Answered, Promise};
-ghost use Rattle.bestset.specs.InnerMarks.{AllRead};
+ghost use Rattle.bestset.specs.Promise.{said, Answered, Promise};
+ghost use Rattle.bestset.specs.InnerMarks.{Choosable};
 ghost use Rattle.bestset.specs.InnerJudging.{Readable};
 use crate::marks::Read;
 use paper::limits::RESULT_BYTES;
@@ -23,9 +23,9 @@ pub enum Answer {
 }
 
 // The best set of a well-formed student, from what is read of the results.
-fn choose(catalogue: &[u8], table: &[u8], results: &[u8], year: u64, read: Read) -> Answer
-    requires { ⌜ WellFormed (student (now catalogue) (now results) year) (now table) × AllRead (student (now catalogue) (now results) year) (now table) read ⌝ }
-    ensures { λ r. ⌜ Answered (student (now (catalogue .entry)) (now (results .entry)) year) (now (table .entry)) (said r) ⌝ }
+fn choose(catalogue: &[u8], table: &[u8], year: u64, results: &[u8], read: Read) -> Answer
+    requires { ⌜ Choosable (student (now catalogue) year (now results)) (now table) read ⌝ }
+    ensures { λ r. ⌜ Answered (student (now (catalogue .entry)) year (now (results .entry))) (now (table .entry)) (said r) ⌝ }
 {
     let masks = read.masks;
     let scores = read.scores;
@@ -50,11 +50,11 @@ fn choose(catalogue: &[u8], table: &[u8], results: &[u8], year: u64, read: Read)
 }
 
 // The best set of a student whose results can be read: 6, 7, 8 are left.
-fn weigh(catalogue: &[u8], table: &[u8], results: &[u8], year: u64) -> Answer
-    requires { ⌜ Readable (student (now catalogue) (now results) year) (now table) ⌝ }
-    ensures { λ r. ⌜ Promise (student (now (catalogue .entry)) (now (results .entry)) year) (now (table .entry)) r ⌝ }
+fn weigh(catalogue: &[u8], table: &[u8], year: u64, results: &[u8]) -> Answer
+    requires { ⌜ Readable (student (now catalogue) year (now results)) (now table) ⌝ }
+    ensures { λ r. ⌜ Promise (student (now (catalogue .entry)) year (now (results .entry))) (now (table .entry)) r ⌝ }
 {
-    let read = marks::read_all(catalogue, table, results, year);
+    let read = marks::read_all(catalogue, table, year, results);
     let masks = read.masks;
     let again = repeats::first_repeated(results, masks.usable);
     if again < results.len() / RESULT_BYTES {
@@ -63,16 +63,16 @@ fn weigh(catalogue: &[u8], table: &[u8], results: &[u8], year: u64) -> Answer
     if masks.passes == 0 {
         return Answer::Refused(Refusal::NoEnglish);
     }
-    choose(catalogue, table, results, year, read)
+    choose(catalogue, table, year, results, read)
 }
 
 // The best set of five results, for the assessment year.
-pub fn best_set(catalogue: &[u8], table: &[u8], results: &[u8], year: u64) -> Answer
-    ensures { λ r. ⌜ Promise (student (now (catalogue .entry)) (now (results .entry)) year) (now (table .entry)) r ⌝ }
+pub fn best_set(catalogue: &[u8], table: &[u8], year: u64, results: &[u8]) -> Answer
+    ensures { λ r. ⌜ Promise (student (now (catalogue .entry)) year (now (results .entry))) (now (table .entry)) r ⌝ }
 {
-    let verdict = readable::judge(catalogue, table, results, year);
+    let verdict = readable::judge(catalogue, table, year, results);
     if let Verdict::Refused(x) = verdict {
         return Answer::Refused(x);
     }
-    weigh(catalogue, table, results, year)
+    weigh(catalogue, table, year, results)
 }

@@ -52,7 +52,7 @@ fn grade_fits(result: Result) -> bool
 }
 
 // Whether letter, number or year is wrong for the kind.
-fn wrong(result: Result, year: u64) -> bool
+fn wrong(year: u64, result: Result) -> bool
     ensures { λ r. ⌜ r ≡ wrong year result ⌝ }
 {
     if !grade_fits(result) {
@@ -72,10 +72,10 @@ fn is_score(slot: Slot) -> bool
 }
 
 // Whether a usable result has a missing slot or one over the greatest score.
-fn unscored(table: &[u8], result: Result, year: u64) -> bool
+fn unscored(table: &[u8], year: u64, result: Result) -> bool
     ensures { λ r. ⌜ r ≡ unscored (now (table .entry)) year result ⌝ }
 {
-    if !counting::usable(result, year) {
+    if !counting::usable(year, result) {
         return false;
     }
     !is_score(scoring::slot_of(table, result))
@@ -88,18 +88,18 @@ fn judge_result(subjects: usize, table: &[u8], year: u64, result: Result, place:
     if subjects <= result.subject as usize {
         return Verdict::Refused(Refusal::WrongSubject(place));
     }
-    if wrong(result, year) {
+    if wrong(year, result) {
         return Verdict::Refused(Refusal::WrongResult(place));
     }
-    if unscored(table, result, year) {
+    if unscored(table, year, result) {
         return Verdict::Refused(Refusal::WrongScore(place));
     }
     Verdict::Clear
 }
 
 // 3, 4, 5 of each result in turn.
-fn judge_results(catalogue: &[u8], table: &[u8], results: &[u8], year: u64) -> Verdict
-    ensures { λ r. ⌜ ruled r ≡ judged (turnRules (student (now (catalogue .entry)) (now (results .entry)) year) (now (table .entry))) tt ⌝ }
+fn judge_results(catalogue: &[u8], table: &[u8], year: u64, results: &[u8]) -> Verdict
+    ensures { λ r. ⌜ ruled r ≡ judged (turnRules (student (now (catalogue .entry)) year (now (results .entry))) (now (table .entry))) tt ⌝ }
 {
     let mut i: usize = 0;
     while i < results.len() / RESULT_BYTES {
@@ -114,9 +114,9 @@ fn judge_results(catalogue: &[u8], table: &[u8], results: &[u8], year: u64) -> V
 }
 
 // 11, 14, and 1 and 2 of the results, for a catalogue within its limit.
-fn judge_input(catalogue: &[u8], table: &[u8], results: &[u8], year: u64) -> Verdict
+fn judge_input(catalogue: &[u8], table: &[u8], year: u64, results: &[u8]) -> Verdict
     requires { ⌜ subjects (now catalogue) ≤ mostSubjects ⌝ }
-    ensures { λ r. ⌜ ruled r ≡ judged (inputRules (student (now (catalogue .entry)) (now (results .entry)) year) (now (table .entry))) tt ⌝ }
+    ensures { λ r. ⌜ ruled r ≡ judged (inputRules (student (now (catalogue .entry)) year (now (results .entry))) (now (table .entry))) tt ⌝ }
 {
     if table.len() != ROW_BYTES * (catalogue.len() / ENTRY_BYTES) {
         return Verdict::Refused(Refusal::WrongLength);
@@ -135,16 +135,16 @@ fn judge_input(catalogue: &[u8], table: &[u8], results: &[u8], year: u64) -> Ver
 }
 
 // All of it, in the paper's order.
-pub(crate) fn judge(catalogue: &[u8], table: &[u8], results: &[u8], year: u64) -> Verdict
-    ensures { λ r. ⌜ ruled r ≡ judged (readRules (student (now (catalogue .entry)) (now (results .entry)) year) (now (table .entry))) tt ⌝ }
+pub(crate) fn judge(catalogue: &[u8], table: &[u8], year: u64, results: &[u8]) -> Verdict
+    ensures { λ r. ⌜ ruled r ≡ judged (readRules (student (now (catalogue .entry)) year (now (results .entry))) (now (table .entry))) tt ⌝ }
 {
     let screened = catalogue::screen(catalogue);
     if let Verdict::Refused(x) = screened {
         return Verdict::Refused(x);
     }
-    let lengths = judge_input(catalogue, table, results, year);
+    let lengths = judge_input(catalogue, table, year, results);
     if let Verdict::Refused(x) = lengths {
         return Verdict::Refused(x);
     }
-    judge_results(catalogue, table, results, year)
+    judge_results(catalogue, table, year, results)
 }

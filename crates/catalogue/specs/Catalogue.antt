@@ -1,5 +1,5 @@
 -- A catalogue: an entry is five bytes, which are its kind, strand, level and identity (two bytes).
-use Prim.Native.Nat.{ℕ, _+_, _*_, _/_, _%_}
+use Prim.Native.Nat.{ℕ, _+_, _*_, _%_}
 use mathlib.Core.Bool.{Bool, not, _&&_}
 use mathlib.Core.List.{List, [], _∷_}
 use lib.ListN.{length}
@@ -7,14 +7,14 @@ use Rattle.paper.specs.Limits.{entryBytes, mostSubjects}
 use Rattle.paper.specs.Lists.{first, some}
 use Rattle.paper.specs.Words.{_≤?_, _<?_, _=?_, _≠?_, if_then_else_}
 use Rattle.paper.specs.Ranges.{within}
-use Rattle.paper.specs.Bytes.{byte, word}
+use Rattle.paper.specs.Bytes.{byte, word, records}
 use Rattle.paper.specs.Rulings.{Rule, _⇒_, _at_}
 use Rattle.catalogue.specs.Kinds.{general, shortCourse, vet, mathematics, certificateI, advancedDiploma, isVet, isIdentified}
 use Rattle.catalogue.specs.declared.entries.Entry.{Entry}
 
 -- how many whole entries there are
 abbrev pub subjects : List ℕ → ℕ
-subjects catalogue = length catalogue / entryBytes
+subjects catalogue = records entryBytes catalogue
 
 -- entry i
 abbrev pub entryAt : List ℕ → ℕ → Entry

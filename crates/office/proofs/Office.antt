@@ -27,7 +27,7 @@ use Rattle.curve.specs.Curve.{lower, upper, entry, tableOf}
 use Rattle.ranks.specs.Ranking.{ranksOf, percentilesOf}
 use Rattle.tally.specs.Places.{places, bandUpTo}
 use Rattle.bands.specs.Placing.{remainder}
-use Rattle.bands.specs.Search.{bandsOf}
+use Rattle.bands.specs.Bands.{bandsOf}
 use Rattle.fields.specs.Fields.{Piece, whole, piecesOf}
 use Rattle.cohort.specs.Taking.{newRow}
 use Rattle.cohort.specs.Judging.{holdsId}

@@ -1,9 +1,6 @@
 // For each value its rank and its percentile.
-ghost use mathlib.Core.Path.{_≡_};
-ghost use Prim.Native.Nat.{_≤_};
-ghost use lib.ListN.{length};
-ghost use Rattle.paper.specs.Limits.{mostValues};
 ghost use Rattle.ranks.specs.Promise.{lent, Ranked, Promise};
+ghost use Rattle.ranks.specs.Inner.{Fillable};
 use paper::limits::MOST_VALUES;
 use paper::refusal::Refusal;
 
@@ -19,7 +16,7 @@ pub enum Answer {
 
 // Fills both buffers, sorting the values in them first.
 fn fill(values: &[u32], ranks: &mut [u32], percentiles: &mut [u32])
-    requires { ⌜ (length (now values) ≤ mostValues) × (length (now ranks) ≡ length (now values)) × (length (now percentiles) ≡ length (now values)) ⌝ }
+    requires { ⌜ Fillable (now values) (now ranks) (now percentiles) ⌝ }
     ensures { λ _. ⌜ Ranked (now (values .entry)) (lent (now (ranks .exit)) (now (percentiles .exit))) ⌝ }
 {
     sort::copy(values, ranks);

@@ -30,12 +30,12 @@ most one table v w =
 pub aggregates-most : (catalogue table : List ℕ) (year : ℕ) (ss : List Enrolled) (i : ℕ) → getD (aggregatesOf (outcome catalogue table year) ss) i 0 ≤ mostAggregate
 unfolding aggregatesOf outcome
 aggregates-most catalogue table year [] i = omega arith
-aggregates-most catalogue table year (s ∷ ss) i = go (computed (student catalogue (s .results) year) table) refl (aggregates-most catalogue table year ss) i
+aggregates-most catalogue table year (s ∷ ss) i = go (computed (student catalogue year (s .results)) table) refl (aggregates-most catalogue table year ss) i
   where
-    go : (o : Outcome Values) → computed (student catalogue (s .results) year) table ≡ o → ((i : ℕ) → getD (aggregatesOf (outcome catalogue table year) ss) i 0 ≤ mostAggregate)
+    go : (o : Outcome Values) → computed (student catalogue year (s .results)) table ≡ o → ((i : ℕ) → getD (aggregatesOf (outcome catalogue table year) ss) i 0 ≤ mostAggregate)
         → (i : ℕ) → getD (withAggregate o (aggregatesOf (outcome catalogue table year) ss)) i 0 ≤ mostAggregate
     go (refused f) e h i = h i
-    go (accepted v) e h zero = most (student catalogue (s .results) year) table v (chosen (student catalogue (s .results) year) table v e)
+    go (accepted v) e h zero = most (student catalogue year (s .results)) table v (chosen (student catalogue year (s .results)) table v e)
     go (accepted v) e h (suc i) = h i
 
 -- so aggregates that are collected are ranked and placed, with a buffer of zeros for each column

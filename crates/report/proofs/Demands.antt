@@ -15,7 +15,7 @@ use Rattle.ranks.specs.Ranking.{rank, percentile, ranksOf, percentilesOf}
 use Rattle.ranks.specs.Promise.{lent, ruling as ranksRuling}
 use Rattle.ranks.proofs.Promised.{computed as ranks-computed}
 use Rattle.bands.specs.Placing.{remainder}
-use Rattle.bands.specs.Search.{bandsOf}
+use Rattle.bands.specs.Bands.{bandsOf}
 use Rattle.bands.specs.Promise.{ruling as bandsRuling}
 use Rattle.bands.proofs.Placed.{best-exists}
 use Rattle.listing.specs.Text.{digits}
@@ -34,9 +34,9 @@ use Rattle.report.proofs.Bounded.{aggregates-most}
 
 -- each student's outcome is one that the best set permits: the greatest over all admissible sets, or the refusal that the rules fix
 pub owed : (held : Held) (s : Enrolled)
-    → let one = student (held .catalogue) (s .results) (held .year) in Ruled one (held .table) (outcomeOf held s)
+    → let one = student (held .catalogue) (held .year) (s .results) in Ruled one (held .table) (outcomeOf held s)
 unfolding outcome
-owed held s = computed-ruled (student (held .catalogue) (s .results) (held .year)) (held .table)
+owed held s = computed-ruled (student (held .catalogue) (held .year) (s .results)) (held .table)
 
 -- the aggregates of some students and of those after them
 aggregates-join : (out : Enrolled → Outcome Values) (before rest : List Enrolled) → aggregatesOf out (before ++ rest) ≡ aggregatesOf out before ++ aggregatesOf out rest
@@ -129,7 +129,7 @@ module _ (file : List ℕ) (held : Held) (reads : reading file ≡ accepted held
       let r = ranks-computed (eligibleOf held) in
       record {
         values = v;
-        greatest = chosen (student (held .catalogue) (s .results) (held .year)) (held .table) v a;
+        greatest = chosen (student (held .catalogue) (held .year) (s .results)) (held .table) v a;
         own = own;
         bands = bandsOf (eligibleOf held) (participation (held .figures)) (Y (held .figures));
         best = best-exists (eligibleOf held) (participation (held .figures)) (Y (held .figures));

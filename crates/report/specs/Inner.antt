@@ -23,7 +23,7 @@ studentsIn (suc n) ids counts results =
 
 -- the outcome of the student whose results, so many, stand from a place on
 abbrev pub outcomeAt : List ℕ → List ℕ → ℕ → List ℕ → ℕ → ℕ → Outcome Values
-outcomeAt catalogue table year results place count = computed (student catalogue (take (resultBytes * count) (drop place results)) year) table
+outcomeAt catalogue table year results place count = computed (student catalogue year (take (resultBytes * count) (drop place results))) table
 
 -- a student's mark: 1 where eligible, else 0
 abbrev pub markOf : Outcome Values → ℕ

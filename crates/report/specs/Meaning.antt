@@ -29,7 +29,7 @@ pub record In (line text : List ℕ) : Type 0 where
 -- placement, over all placements, of the eligible, and these are printed with its rank and percentile among the eligible
 pub record Estimated (file : List ℕ) (held : Held) (s : Enrolled) (j : ℕ) : Type 0 where
   pub values : Values
-  pub greatest : Chosen (student (held .catalogue) (s .results) (held .year)) (held .table) values
+  pub greatest : Chosen (student (held .catalogue) (held .year) (s .results)) (held .table) values
   pub own : getD (eligibleOf held) j 0 ≡ values .aggregate
   pub bands : List ℕ
   pub best : BestPlacement (eligibleOf held) (participation (held .figures)) (Y (held .figures)) bands

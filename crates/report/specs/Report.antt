@@ -10,14 +10,14 @@ use Rattle.curve.specs.Population.{Y, rate}
 use Rattle.curve.specs.Curve.{tableOf}
 use Rattle.ranks.specs.Ranking.{ranksOf, percentilesOf}
 use Rattle.bands.specs.Placing.{remainder}
-use Rattle.bands.specs.Search.{bandsOf}
+use Rattle.bands.specs.Bands.{bandsOf}
 use Rattle.cohort.specs.Held.{Enrolled, Held}
 use Rattle.cohort.specs.Reading.{reading}
 use Rattle.listing.specs.Lines.{cohortLine, studentLine, refusedLine, fileLine}
 
 -- a student's best set, or why there is none
 unfoldable pub outcome : List ℕ → List ℕ → ℕ → Enrolled → Outcome Values
-outcome catalogue table year s = computed (student catalogue (s .results) year) table
+outcome catalogue table year s = computed (student catalogue year (s .results)) table
 
 -- the aggregates of the eligible, who alone are the cohort, in file order
 abbrev pub withAggregate : Outcome Values → List ℕ → List ℕ

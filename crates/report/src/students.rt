@@ -22,7 +22,7 @@ pub(crate) fn best_at(
     ensures { λ r. ⌜ said r ≡ outcomeAt (now (catalogue .entry)) (now (table .entry)) year (now (results .entry)) place count ⌝ }
 {
     let end = place + RESULT_BYTES * count;
-    bestset::best_set(catalogue, table, &results[place..end], year)
+    bestset::best_set(catalogue, table, year, &results[place..end])
 }
 
 // Keeps the aggregate of an eligible student, as the j-th.

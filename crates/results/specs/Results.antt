@@ -1,15 +1,14 @@
 -- A student's results: six bytes to each, which are its subject (two), letter, number and year (two).
-use Prim.Native.Nat.{ℕ, _+_, _*_, _/_}
+use Prim.Native.Nat.{ℕ, _+_, _*_}
 use mathlib.Core.List.{List}
-use lib.ListN.{length}
 use Rattle.paper.specs.Limits.{resultBytes}
-use Rattle.paper.specs.Bytes.{byte, word}
+use Rattle.paper.specs.Bytes.{byte, word, records}
 use Rattle.catalogue.specs.Catalogue.{entryAt}
 use Rattle.results.specs.declared.reading.Result.{Result}
 
 -- how many whole results there are
 abbrev pub heldIn : List ℕ → ℕ
-heldIn results = length results / resultBytes
+heldIn results = records resultBytes results
 
 -- the subject of result i is a place in the catalogue, from 0; and its year
 abbrev pub subjectOf : List ℕ → ℕ → ℕ
@@ -28,14 +27,14 @@ resultOf catalogue results i = record {
   entry = entryAt catalogue (subjectOf results i);
 }
 
--- a student's results, the catalogue that they name, and the assessment year
+-- the catalogue that a student's results name, the assessment year, and the results
 pub record Student : Type 0 where
   pub catalogue : List ℕ
-  pub results : List ℕ
   pub year : ℕ
+  pub results : List ℕ
 
-abbrev pub student : List ℕ → List ℕ → ℕ → Student
-student catalogue results year = record { catalogue = catalogue; results = results; year = year }
+abbrev pub student : List ℕ → ℕ → List ℕ → Student
+student catalogue year results = record { catalogue = catalogue; year = year; results = results }
 
 -- how many results a student has, and result i
 abbrev pub held : Student → ℕ

@@ -32,7 +32,7 @@ fn recent(year: u64, own: u16) -> bool
     ranges::within(own, own + YEARS_BEFORE, year)
 }
 
-pub fn usable(result: Result, year: u64) -> bool
+pub fn usable(year: u64, result: Result) -> bool
     ensures { λ r. ⌜ r ≡ usable year result ⌝ }
 {
     if !counts_for(result) {
@@ -42,10 +42,10 @@ pub fn usable(result: Result, year: u64) -> bool
 }
 
 // Whether a result shows English.
-pub fn passes(result: Result, year: u64) -> bool
+pub fn passes(year: u64, result: Result) -> bool
     ensures { λ r. ⌜ r ≡ passes year result ⌝ }
 {
-    if !usable(result, year) {
+    if !usable(year, result) {
         return false;
     }
     if result.entry.strand != ENGLISH {

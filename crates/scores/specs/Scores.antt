@@ -7,12 +7,12 @@ use Rattle.paper.specs.Limits.{slots, slotBytes, rowBytes, missing, topScore}
 use Rattle.paper.specs.Letters.{letterA, letterB, letterC, letterD, letterE}
 use Rattle.paper.specs.Words.{_<?_, _=?_, if_then_else_}
 use Rattle.paper.specs.Ranges.{within}
-use Rattle.paper.specs.Bytes.{word}
+use Rattle.paper.specs.Bytes.{word, records}
 use Rattle.catalogue.specs.Kinds.{isGeneral, isApplied, isVet}
 
 -- the whole rows of a table
 abbrev pub rows : List ℕ → ℕ
-rows table = length table / rowBytes
+rows table = records rowBytes table
 
 -- bytes of a table, subject, slot: there is a slot of this number in the subject's row
 abbrev pub slotIn : ℕ → ℕ → ℕ → Bool

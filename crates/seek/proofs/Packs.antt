@@ -5,10 +5,10 @@ use mathlib.Core.Path.{_≡_}
 use mathlib.Core.List.{List}
 use borrow.Author.Count.{below-more}
 use Rattle.paper.specs.Limits.{mostResults}
-use Rattle.seek.specs.InnerPacking.{valueIn, FourIn, valueAt}
+use Rattle.seek.specs.InnerPacking.{numberBits, numbers, valueIn, FourIn, valueAt}
 use Rattle.seek.specs.declared.packing.Packed.{Packed}
 
-first-of : {word a b c d : ℕ} → FourIn word a b c d → word / 2 ^ (16 * 0) % 65536 ≡ a
+first-of : {word a b c d : ℕ} → FourIn word a b c d → word / 2 ^ (numberBits * 0) % numbers ≡ a
 first-of {word} h = let e : word / 1 ≡ word = omega arith in rw e (h .one)
 
 module _ (packed : Packed) (xs : List ℕ) where

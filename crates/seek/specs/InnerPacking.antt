@@ -10,16 +10,26 @@ use Rattle.seek.specs.declared.packing.Packed.{Packed}
 abbrev pub valueAt : List ℕ → ℕ → ℕ
 valueAt values i = getD values i 0
 
+-- the bits of a number, the numbers of so many bits, and how many a word holds
+abbrev pub numberBits : ℕ
+numberBits = 16
+
+abbrev pub numbers : ℕ
+numbers = 2 ^ numberBits
+
+abbrev pub perWord : ℕ
+perWord = 4
+
 -- a word, from 0 to 3, and number i
 abbrev pub wordOf : Packed → ℕ → ℕ
 wordOf packed word = if word =? 0 then packed .first else if word =? 1 then packed .second else if word =? 2 then packed .third else packed .fourth
 
 unfoldable pub valueIn : Packed → ℕ → ℕ
-valueIn packed i = wordOf packed (i / 4) / 2 ^ (16 * (i % 4)) % 65536
+valueIn packed i = wordOf packed (i / perWord) / 2 ^ (numberBits * (i % perWord)) % numbers
 
 -- a word holds these four numbers
 pub record FourIn (word a b c d : ℕ) : Type 0 where
-  pub one : word % 65536 ≡ a
-  pub two : word / 65536 % 65536 ≡ b
-  pub three : word / 4294967296 % 65536 ≡ c
-  pub four : word / 281474976710656 % 65536 ≡ d
+  pub one : word % numbers ≡ a
+  pub two : word / numbers % numbers ≡ b
+  pub three : word / numbers ^ 2 % numbers ≡ c
+  pub four : word / numbers ^ 3 % numbers ≡ d

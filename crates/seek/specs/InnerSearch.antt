@@ -3,6 +3,7 @@ use Prim.Native.Nat.{ℕ, zero, suc, _+_, _-_, _*_, _/_, _%_, _^_, _≤_, _<_}
 use mathlib.Core.Path.{_≡_}
 use mathlib.Core.Logic.{_⊎_}
 use mathlib.Core.List.{List}
+use lib.Count.{ones}
 use Rattle.paper.specs.Limits.{mostResults, topScore}
 use Rattle.seek.specs.Sets.{In, comesTo}
 use Rattle.seek.specs.InnerPacking.{valueAt}
@@ -44,6 +45,12 @@ pub record Stands (Adm : ℕ → Type 0) (score : ℕ → ℕ) (mask held m : �
   pub place : Before mask held at set
   pub worth : sum ≡ comesTo score set
   pub tried : Tried Adm score m best
+
+-- the search stands at a set of so many members
+pub record StandsWith (members : ℕ) (Adm : ℕ → Type 0) (scores : List ℕ) (mask held : ℕ) (best : Lead) (at set sum : ℕ) : Type 0 where
+  pub sought : Sought mask scores held
+  pub count : ones set ≡ members
+  pub stands : Stands Adm (valueAt scores) mask held (room at set) best at set sum
 
 -- the best with one set more: the set, if it is admissible and comes to more; else the best so far
 abbrev pub Bettered : (ℕ → Type 0) → Lead → ℕ → ℕ → Lead → Type 0

@@ -15,6 +15,17 @@ use Rattle.seek.specs.declared.search.Lead.the-variants.{Leading, Nothin
 abbrev pub Below : ℕ → ℕ → Type 0
 Below held set = (i : ℕ) → In i set → i < held
 
+-- a set of results held, at most sixteen
+pub record OfHeld (held set : ℕ) : Type 0 where
+  pub few : held ≤ mostResults
+  pub below : Below held set
+
+-- a set of kept results, where those are of the results held
+pub record OfKept (mask held set : ℕ) : Type 0 where
+  pub few : held ≤ mostResults
+  pub among : Below held mask
+  pub kept : (i : ℕ) → In i set → In i mask
+
 -- not both a member that is in the one mask and a member that is in the other
 abbrev pub Apart : ℕ → ℕ → ℕ → Type 0
 Apart one other set = (i j : ℕ) → In i set → In i one → In j set → In j other → ⊥

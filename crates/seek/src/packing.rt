@@ -6,6 +6,13 @@ ghost use Rattle.seek.specs.InnerPacking.{valueAt, wordOf, valueIn, Four
 use paper::limits::MOST_RESULTS;
 use paper::widening::wide16;
 
+// The bits of a number, the numbers of so many bits, and how many a word holds.
+const NUMBER_BITS: usize = 16;
+
+const NUMBERS: u64 = 65536;
+
+const PER_WORD: usize = 4;
+
 // Four numbers of 16 bits to a word, the first the lowest.
 pub struct Packed {
     pub first: u64,
@@ -18,7 +25,7 @@ pub struct Packed {
 fn four(a: u16, b: u16, c: u16, d: u16) -> u64
     ensures { λ r. ⌜ FourIn r a b c d ⌝ }
 {
-    wide16(a) + 65536 * (wide16(b) + 65536 * (wide16(c) + 65536 * wide16(d)))
+    wide16(a) + NUMBERS * (wide16(b) + NUMBERS * (wide16(c) + NUMBERS * wide16(d)))
 }
 
 pub fn pack(values: &[u16; MOST_RESULTS]) -> Packed
@@ -48,7 +55,7 @@ fn word_of(packed: Packed, word: usize) -> u64
 pub(crate) fn value_in(packed: Packed, i: usize) -> u16
     ensures { λ r. ⌜ r ≡ valueIn packed i ⌝ }
 {
-    let word = word_of(packed, i / 4);
-    let low = 16 * (i % 4);
-    ((word >> low) % 65536) as u16
+    let word = word_of(packed, i / PER_WORD);
+    let low = NUMBER_BITS * (i % PER_WORD);
+    ((word >> low) % NUMBERS) as u16
 }

@@ -1,13 +1,10 @@
 // The search for the best set: those of five kept results are tried in dictionary order of their positions, up to three members by stepping, the fourth and
 // the fifth by loops. `held` is the number of results.
-ghost use Prim.Native.Nat.{ℕ, _≤_, _<_};
-ghost use mathlib.Core.Path.{_≡_};
-ghost use lib.Count.{ones};
+ghost use Prim.Native.Nat.{_<_};
 ghost use Rattle.paper.specs.Limits.{mostResults};
-ghost use Rattle.seek.specs.Sets.{In};
 ghost use Rattle.seek.specs.InnerPacking.{valueIn, valueAt};
-ghost use Rattle.seek.specs.InnerTest.{Below, Distinct, Shares, Allowed, Decides, Beats, Answers};
-ghost use Rattle.seek.specs.InnerSearch.{Sought, key, room, Tried, Stands, Bettered};
+ghost use Rattle.seek.specs.InnerTest.{OfHeld, OfKept, Distinct, Shares, Allowed, Decides, Beats, Answers};
+ghost use Rattle.seek.specs.InnerSearch.{Sought, key, Tried, StandsWith, Bettered};
 use crate::packing;
 use crate::packing::Packed;
 use paper::limits::LEAST_GENERAL;
@@ -40,7 +37,7 @@ pub enum Lead {
 
 // Whether a member after result i has its identity.
 fn shares_later(identities: Packed, held: usize, set: u16, i: usize) -> bool
-    requires { ⌜ (i < mostResults) × (held ≤ mostResults) × Below held set ⌝ }
+    requires { ⌜ (i < mostResults) × OfHeld held set ⌝ }
     ensures { λ r. ⌜ Decides r (Shares (valueIn identities) set i) ⌝ }
 {
     let own = packing::value_in(identities, i);
@@ -59,7 +56,7 @@ fn shares_later(identities: Packed, held: usize, set: u16, i: usize) -> bool
 
 // Whether no two members have one identity.
 fn distinct(identities: Packed, held: usize, set: u16) -> bool
-    requires { ⌜ (held ≤ mostResults) × Below held set ⌝ }
+    requires { ⌜ OfHeld held set ⌝ }
     ensures { λ r. ⌜ Decides r (Distinct (valueIn identities) set) ⌝ }
 {
     let mut i: usize = 0;
@@ -74,7 +71,7 @@ fn distinct(identities: Packed, held: usize, set: u16) -> bool
 
 // Whether a set of kept results is admissible.
 fn admissible(test: Test, held: usize, set: u16) -> bool
-    requires { ⌜ (held ≤ mostResults) × Below held (test .kept) × ((i : ℕ) → In i set → In i (test .kept)) ⌝ }
+    requires { ⌜ OfKept (test .kept) held set ⌝ }
     ensures { λ r. ⌜ Decides r (Allowed test set) ⌝ }
 {
     if u16::count_ones(set) != MEMBERS {
@@ -104,7 +101,7 @@ fn beats(best: Lead, sum: u32) -> bool
 
 // The best with one set more.
 fn better(test: Test, held: usize, best: Lead, set: u16, sum: u32) -> Lead
-    requires { ⌜ (held ≤ mostResults) × Below held (test .kept) × ((i : ℕ) → In i set → In i (test .kept)) ⌝ }
+    requires { ⌜ OfKept (test .kept) held set ⌝ }
     ensures { λ r. ⌜ Bettered (Allowed test) best set sum r ⌝ }
 {
     if beats(best, sum) && admissible(test, held, set) {
@@ -123,8 +120,7 @@ fn with_fifth(
     sum: u32,
     at: usize,
 ) -> Lead
-    requires { ⌜ Sought (test .kept) (now scores) held × (ones set ≡ 4)
-        × Stands (Allowed test) (valueAt (now scores)) (test .kept) held (room at set) best at set sum ⌝ }
+    requires { ⌜ StandsWith 4 (Allowed test) (now scores) (test .kept) held best at set sum ⌝ }
     ensures { λ r. ⌜ Tried (Allowed test) (valueAt (now (scores .entry))) (key mostResults set) r ⌝ }
 {
     let mut best = best;
@@ -148,8 +144,7 @@ fn with_fourth(
     sum: u32,
     at: usize,
 ) -> Lead
-    requires { ⌜ Sought (test .kept) (now scores) held × (ones set ≡ 3)
-        × Stands (Allowed test) (valueAt (now scores)) (test .kept) held (room at set) best at set sum ⌝ }
+    requires { ⌜ StandsWith 3 (Allowed test) (now scores) (test .kept) held best at set sum ⌝ }
     ensures { λ r. ⌜ Tried (Allowed test) (valueAt (now (scores .entry))) (key mostResults set) r ⌝ }
 {
     let mut best = best;

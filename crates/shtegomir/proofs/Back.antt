@@ -1,17 +1,22 @@
--- What C gets tells the outcome back: two outcomes of the paper's table with one struct are equal.
+-- What C gets tells the outcome back: two outcomes of the paper's table with one struct are equal. And how C reads it.
 use Prim.Native.Nat.{ℕ, _≤_}
 use native.Mathlib.Omega.{arith}
 use mathlib.Core.Path.{_≡_, refl, sym, ap, subst, _∙_}
-use Rattle.paper.specs.Rulings.{Fault, _at_, Outcome, accepted, refused, numberOf, placeOf}
+use Rattle.paper.specs.Rulings.{Fault, _at_, Outcome, accepted, refused, valuesOr, numberOf, placeOf}
 use Rattle.paper.specs.Refusals.{fault, refusal}
 use Rattle.paper.proofs.Ruled.{Refusing}
 use Rattle.bestset.specs.Promise.{Values as BestValues}
 use Rattle.curve.specs.Promise.{Values as CurveValues}
-use Rattle.shtegomir.specs.Best.{flatBest}
-use Rattle.shtegomir.specs.Participation.{flatCurve}
-use Rattle.shtegomir.specs.Ranking.{flatRanked}
+use Rattle.shtegomir.specs.Telling.{told}
+use Rattle.shtegomir.specs.Best.{flatBest, noValues as noBest}
+use Rattle.shtegomir.specs.Participation.{flatCurve, noValues as noCurve}
 use Rattle.shtegomir.specs.Placing.{flatPlaced}
 use Rattle.shtegomir.specs.Text.{flatText}
+use Rattle.shtegomir.specs.declared.telling.Told.{Told}
+use Rattle.shtegomir.specs.declared.best.Best.{Best}
+use Rattle.shtegomir.specs.declared.participation.Curve.{Curve}
+use Rattle.shtegomir.specs.declared.placing.Placed.{Placed}
+use Rattle.shtegomir.specs.declared.text.Text.{Text}
 use Rattle.shtegomir.proofs.Promised.{not-0}
 
 -- a fault is its number and its place
@@ -22,33 +27,65 @@ same-fault (a at b) (c at d) p q = λ i. p i at q i
 some-number : (f : Fault) → fault (refusal f) ≡ f → 1 ≤ numberOf f
 some-number f e = subst (λ (g : Fault). 1 ≤ numberOf g) e (not-0 (refusal f))
 
--- a struct of an outcome: its refusal, its place and its values
-record Flat {A S : Type 0} (flat : Outcome A → S) (number place : S → ℕ) (values : S → A) : Type 0 where
-  none : (v : A) → number (flat (accepted v)) ≡ 0
-  given : (v : A) → values (flat (accepted v)) ≡ v
-  numbered : (f : Fault) → number (flat (refused f)) ≡ numberOf f
-  placed : (f : Fault) → place (flat (refused f)) ≡ placeOf f
+-- what is told, with the values, tells the outcome back
+told-back : {A : Type 0} (none : A) (o p : Outcome A) → Refusing o → Refusing p → told o ≡ told p → valuesOr none o ≡ valuesOr none p → o ≡ p
+told-back none (accepted u) (accepted v) g h e d = ap accepted d
+told-back none (accepted u) (refused f) g h e d = absurd (omega (arith, some-number f h, ap (λ (t : Told). t .refusal) e))
+told-back none (refused f) (accepted v) g h e d = absurd (omega (arith, some-number f g, ap (λ (t : Told). t .refusal) e))
+told-back none (refused f) (refused k) g h e d = ap refused (same-fault f k (ap (λ (t : Told). t .refusal) e) (ap (λ (t : Told). t .place) e))
 
-told-back : {A S : Type 0} {flat : Outcome A → S} {number place : S → ℕ} {values : S → A} → Flat flat number place values
-    → (o p : Outcome A) → Refusing o → Refusing p → flat o ≡ flat p → o ≡ p
-told-back {values = values} w (accepted u) (accepted v) g h e = ap accepted (sym (w .given u) ∙ ap values e ∙ w .given v)
-told-back {number = number} w (accepted u) (refused f) g h e = absurd (omega (arith, some-number f h, w .none u, w .numbered f, ap number e))
-told-back {number = number} w (refused f) (accepted v) g h e = absurd (omega (arith, some-number f g, w .none v, w .numbered f, ap number e))
-told-back {number = number} {place = place} w (refused f) (refused k) g h e =
-    ap refused (same-fault f k (sym (w .numbered f) ∙ ap number e ∙ w .numbered k) (sym (w .placed f) ∙ ap place e ∙ w .placed k))
+-- how C reads what it is told and the values. Accepted: refusal and place are 0, and the values are given
+pub record Given {A : Type 0} (v : A) (t : Told) (values : A) : Type 0 where
+  pub refusal : t .refusal ≡ 0
+  pub place : t .place ≡ 0
+  pub given : values ≡ v
 
--- for each struct
+-- refused: the refusal is not 0, and every value is 0
+pub record Denied {A : Type 0} (none : A) (t : Told) (values : A) : Type 0 where
+  pub refusal : 1 ≤ t .refusal
+  pub nothing : values ≡ none
+
+abbrev pub Reads : {A : Type 0} → A → Outcome A → Told → A → Type 0
+Reads none (accepted v) t values = Given v t values
+Reads none (refused f) t values = Denied none t values
+
+reads : {A : Type 0} (none : A) (o : Outcome A) → Refusing o → Reads none o (told o) (valuesOr none o)
+reads none (accepted v) g = record { refusal = refl; place = refl; given = refl }
+reads none (refused f) g = record { refusal = some-number f g; nothing = refl }
+
+-- for each struct: the outcome is told back, and it reads as above
+abbrev bestValues : Best → BestValues
+bestValues s = record { aggregate = s .aggregate; set = s .set }
+
 pub best-back : (o p : Outcome BestValues) → Refusing o → Refusing p → flatBest o ≡ flatBest p → o ≡ p
-best-back = told-back {number = λ s. s .refusal} {place = λ s. s .place} {values = λ s. record { aggregate = s .aggregate; set = s .set }} (record { none = λ v. refl; given = λ v. refl; numbered = λ f. refl; placed = λ f. refl })
+best-back o p g h e = told-back noBest o p g h (ap (λ s. s .told) e) (ap bestValues e)
+
+pub best-reads : (o : Outcome BestValues) → Refusing o → Reads noBest o (flatBest o .told) (bestValues (flatBest o))
+best-reads = reads noBest
+
+abbrev curveValues : Curve → CurveValues
+curveValues s = record { population = s .population; rate = s .rate }
 
 pub curve-back : (o p : Outcome CurveValues) → Refusing o → Refusing p → flatCurve o ≡ flatCurve p → o ≡ p
-curve-back = told-back {number = λ s. s .refusal} {place = λ s. s .place} {values = λ s. record { population = s .population; rate = s .rate }} (record { none = λ v. refl; given = λ v. refl; numbered = λ f. refl; placed = λ f. refl })
+curve-back o p g h e = told-back noCurve o p g h (ap (λ s. s .told) e) (ap curveValues e)
 
-pub rank-back : (o p : Outcome (Unit {0})) → Refusing o → Refusing p → flatRanked o ≡ flatRanked p → o ≡ p
-rank-back = told-back {number = λ s. s .refusal} {place = λ s. s .place} {values = λ s. tt} (record { none = λ v. refl; given = λ v. refl; numbered = λ f. refl; placed = λ f. refl })
+pub curve-reads : (o : Outcome CurveValues) → Refusing o → Reads noCurve o (flatCurve o .told) (curveValues (flatCurve o))
+curve-reads = reads noCurve
+
+pub rank-back : (o p : Outcome (Unit {0})) → Refusing o → Refusing p → told o ≡ told p → o ≡ p
+rank-back o p g h e = told-back tt o p g h e refl
+
+pub rank-reads : (o : Outcome (Unit {0})) → Refusing o → Reads tt o (told o) tt
+rank-reads = reads tt
 
 pub placed-back : (o p : Outcome ℕ) → Refusing o → Refusing p → flatPlaced o ≡ flatPlaced p → o ≡ p
-placed-back = told-back {number = λ s. s .refusal} {place = λ s. s .place} {values = λ s. s .remainder} (record { none = λ v. refl; given = λ v. refl; numbered = λ f. refl; placed = λ f. refl })
+placed-back o p g h e = told-back 0 o p g h (ap (λ s. s .told) e) (ap (λ s. s .remainder) e)
+
+pub placed-reads : (o : Outcome ℕ) → Refusing o → Reads 0 o (flatPlaced o .told) (flatPlaced o .remainder)
+placed-reads = reads 0
 
 pub text-back : (o p : Outcome ℕ) → Refusing o → Refusing p → flatText o ≡ flatText p → o ≡ p
-text-back = told-back {number = λ s. s .refusal} {place = λ s. s .place} {values = λ s. s .length} (record { none = λ v. refl; given = λ v. refl; numbered = λ f. refl; placed = λ f. refl })
+text-back o p g h e = told-back 0 o p g h (ap (λ s. s .told) e) (ap (λ s. s .length) e)
+
+pub text-reads : (o : Outcome ℕ) → Refusing o → Reads 0 o (flatText o .told) (flatText o .length)
+text-reads = reads 0

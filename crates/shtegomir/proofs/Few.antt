@@ -6,17 +6,16 @@ use mathlib.Core.List.{List, _∷_, _++_}
 use lib.ListN.{length}
 use borrow.Author.Tests.{ltb-false}
 use Rattle.paper.specs.Limits.{mostStudents, mostTallied}
-use Rattle.paper.specs.Rulings.{Outcome, accepted, refused, Rule, judged}
+use Rattle.paper.specs.Rulings.{Outcome, accepted, refused, valuesOr, Rule, judged}
 use Rattle.paper.proofs.Ruled.{all-kept, given-values}
 use Rattle.bands.specs.Placing.{remainder}
 use Rattle.bands.specs.Promise.{said, sizeRules, countsRule, tableRules, aggregateRules, Promise, Lent, TallyPromise}
 use Rattle.bands.specs.declared.Answer.{Answer}
 use Rattle.report.proofs.Joined.{remainder-within}
-use Rattle.shtegomir.specs.Placing.{remainderOf}
 
 -- of what the rules of either entry permit to be said, at most as many as its limit
 few : (limit : ℕ) (aggregates table : List ℕ) (Y bands : ℕ) (more : List Rule) (o : Outcome ℕ)
-    → o ≡ judged (sizeRules limit (length aggregates) (length table) bands ++ more) (remainder aggregates table Y) → remainderOf o ≤ limit
+    → o ≡ judged (sizeRules limit (length aggregates) (length table) bands ++ more) (remainder aggregates table Y) → valuesOr 0 o ≤ limit
 few limit aggregates table Y bands more (refused f) e = omega arith
 few limit aggregates table Y bands more (accepted n) e =
     let rules = sizeRules limit (length aggregates) (length table) bands ++ more in
@@ -28,8 +27,8 @@ few limit aggregates table Y bands more (accepted n) e =
     )
 
 -- so of every answer that the promises permit
-pub direct-few : (aggregates table : List ℕ) (Y : ℕ) (before : List ℕ) {r : Answer} {after : List ℕ} → Promise aggregates table Y before r after → remainderOf (said r) ≤ mostStudents
+pub direct-few : (aggregates table : List ℕ) (Y : ℕ) (before : List ℕ) {r : Answer} {after : List ℕ} → Promise aggregates table Y before r after → valuesOr 0 (said r) ≤ mostStudents
 direct-few aggregates table Y before {r = r} p = few mostStudents aggregates table Y (length before) (tableRules Y table ++ aggregateRules aggregates) (said r) (p .says)
 
-pub tally-few : (aggregates table : List ℕ) (Y : ℕ) (before : Lent) {r : Answer} {after : Lent} → TallyPromise aggregates table Y before r after → remainderOf (said r) ≤ mostTallied
+pub tally-few : (aggregates table : List ℕ) (Y : ℕ) (before : Lent) {r : Answer} {after : Lent} → TallyPromise aggregates table Y before r after → valuesOr 0 (said r) ≤ mostTallied
 tally-few aggregates table Y before {r = r} p = few mostTallied aggregates table Y (length (before .bands)) (countsRule (length (before .counts)) ∷ tableRules Y table ++ aggregateRules aggregates) (said r) (p .says)

@@ -24,9 +24,9 @@ use Rattle.shtegomir.specs.Participation.{form as curveForm, CurveCalled
 use Rattle.shtegomir.specs.Ranking.{form as rankForm, RankCalled}
 use Rattle.shtegomir.specs.Placing.{form as placedForm, DirectCalled, TallyCalled}
 use Rattle.shtegomir.specs.Text.{form as textForm, ReportCalled}
+use Rattle.shtegomir.specs.declared.telling.Told.{Told}
 use Rattle.shtegomir.specs.declared.best.Best.{Best}
 use Rattle.shtegomir.specs.declared.participation.Curve.{Curve}
-use Rattle.shtegomir.specs.declared.ranking.Ranked.{Ranked}
 use Rattle.shtegomir.specs.declared.placing.Placed.{Placed}
 use Rattle.shtegomir.specs.declared.text.Text.{Text}
 
@@ -46,7 +46,7 @@ module _ (figures before : List ℕ) where
   curve-meets = called-met curveForm (curve.meets figures before)
 
 module _ (values : List ℕ) (before : ranksSay.Lent) where
-  pub rank-determined : {s t : Ranked} {b c : ranksSay.Lent} → RankCalled values before s b → RankCalled values before t c → (s ≡ t) × (b ≡ c)
+  pub rank-determined : {s t : Told} {b c : ranksSay.Lent} → RankCalled values before s b → RankCalled values before t c → (s ≡ t) × (b ≡ c)
   rank-determined = called-once (λ q r. ranks.determined values before)
 
   pub rank-meets : let o = ranksSay.ruling values before in RankCalled values before (rankForm (ranksSay.answer o)) (ranksSay.left values before o)

@@ -2,4 +2,5 @@ pub mod Best
 pub mod Participation
 pub mod Placing
 pub mod Ranking
+pub mod Telling
 pub mod Text

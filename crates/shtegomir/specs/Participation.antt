@@ -1,16 +1,21 @@
 -- What C gets of the population and the curve.
 use Prim.Native.Nat.{ℕ}
 use mathlib.Core.List.{List}
-use Rattle.paper.specs.Rulings.{Outcome, accepted, refused, numberOf, placeOf}
+use Rattle.paper.specs.Rulings.{Outcome, valuesOr}
 use Rattle.paper.specs.Promises.{Called}
 use Rattle.curve.specs.Promise.{Values, said, Promise}
 use Rattle.curve.specs.declared.Answer.{Answer}
+use Rattle.shtegomir.specs.Telling.{told}
 use Rattle.shtegomir.specs.declared.participation.Curve.{Curve}
 
--- accepted: refusal and place are 0; refused: population and rate are 0
+abbrev pub noValues : Values
+noValues = record { population = 0; rate = 0 }
+
+-- what is told; the values, 0 where it is refused
 abbrev pub flatCurve : Outcome Values → Curve
-flatCurve (accepted v) = record { refusal = 0; place = 0; population = v .population; rate = v .rate }
-flatCurve (refused f) = record { refusal = numberOf f; place = placeOf f; population = 0; rate = 0 }
+flatCurve o =
+    let given = valuesOr noValues o in
+    record { told = told o; population = given .population; rate = given .rate }
 
 abbrev pub form : Answer → Curve
 form r = flatCurve (said r)

@@ -1,21 +1,16 @@
 -- What C gets of bands.
 use Prim.Native.Nat.{ℕ}
 use mathlib.Core.List.{List}
-use Rattle.paper.specs.Rulings.{Outcome, accepted, refused, numberOf, placeOf}
+use Rattle.paper.specs.Rulings.{Outcome, valuesOr}
 use Rattle.paper.specs.Promises.{Called}
 use Rattle.bands.specs.Promise.{said, Promise, Lent, TallyPromise}
 use Rattle.bands.specs.declared.Answer.{Answer}
+use Rattle.shtegomir.specs.Telling.{told}
 use Rattle.shtegomir.specs.declared.placing.Placed.{Placed}
 
--- the remainder, 0 where it is refused
-abbrev pub remainderOf : Outcome ℕ → ℕ
-remainderOf (accepted n) = n
-remainderOf (refused f) = 0
-
--- accepted: refusal and place are 0; refused: the remainder is 0
+-- what is told; the remainder, 0 where it is refused
 abbrev pub flatPlaced : Outcome ℕ → Placed
-flatPlaced (accepted n) = record { refusal = 0; place = 0; remainder = n }
-flatPlaced (refused f) = record { refusal = numberOf f; place = placeOf f; remainder = 0 }
+flatPlaced o = record { told = told o; remainder = valuesOr 0 o }
 
 abbrev pub form : Answer → Placed
 form r = flatPlaced (said r)

@@ -1,16 +1,16 @@
 -- What C gets of a file's listing.
 use Prim.Native.Nat.{ℕ}
 use mathlib.Core.List.{List}
-use Rattle.paper.specs.Rulings.{Outcome, accepted, refused, numberOf, placeOf}
+use Rattle.paper.specs.Rulings.{Outcome, valuesOr}
 use Rattle.paper.specs.Promises.{Called}
 use Rattle.report.specs.Promise.{said, Promise}
 use Rattle.report.specs.declared.Answer.{Answer}
+use Rattle.shtegomir.specs.Telling.{told}
 use Rattle.shtegomir.specs.declared.text.Text.{Text}
 
--- accepted: refusal and place are 0; refused: the length is 0
+-- what is told; the length, 0 where it is refused
 abbrev pub flatText : Outcome ℕ → Text
-flatText (accepted n) = record { refusal = 0; place = 0; length = n }
-flatText (refused f) = record { refusal = numberOf f; place = placeOf f; length = 0 }
+flatText o = record { told = told o; length = valuesOr 0 o }
 
 abbrev pub form : Answer → Text
 form r = flatText (said r)

@@ -2,14 +2,15 @@
 ghost use mathlib.Core.Path.{_≡_};
 ghost use Rattle.results.specs.Results.{student};
 ghost use Rattle.shtegomir.specs.Best.{form, BestCalled};
+use crate::telling::Told;
+use crate::telling::nothing_wrong;
 use crate::telling::tell;
 use bestset::Answer;
 
-// Accepted: refusal and place are 0. Refused: aggregate and set are 0.
+// Refused: aggregate and set are 0. Laid out as the header's flat shtegomir_best.
 #[repr(C)]
 pub struct Best {
-    pub refusal: u64,
-    pub place: u64,
+    pub told: Told,
     pub aggregate: u32,
     pub set: u16,
 }
@@ -18,17 +19,18 @@ fn flatten(answer: Answer) -> Best
     ensures { λ r. ⌜ r ≡ form answer ⌝ }
 {
     match answer {
-        Answer::Accepted { aggregate, set } => Best {
-            refusal: 0,
-            place: 0,
-            aggregate,
-            set,
-        },
+        Answer::Accepted { aggregate, set } => {
+            let told = nothing_wrong();
+            Best {
+                told,
+                aggregate,
+                set,
+            }
+        }
         Answer::Refused(x) => {
             let told = tell(x);
             Best {
-                refusal: told.refusal,
-                place: told.place,
+                told,
                 aggregate: 0,
                 set: 0,
             }
@@ -43,7 +45,7 @@ pub extern "C" fn shtegomir_best_set(
     year: u32,
     results: &[u8],
 ) -> Best
-    ensures { λ r. ⌜ BestCalled (student (now (catalogue .entry)) (now (results .entry)) year) (now (table .entry)) r ⌝ }
+    ensures { λ r. ⌜ BestCalled (student (now (catalogue .entry)) year (now (results .entry))) (now (table .entry)) r ⌝ }
 {
-    flatten(bestset::best_set(catalogue, table, results, year as u64))
+    flatten(bestset::best_set(catalogue, table, year as u64, results))
 }

@@ -3,5 +3,5 @@ pub mod best;
 pub mod participation;
 pub mod placing;
 pub mod ranking;
-mod telling;
+pub mod telling;
 pub mod text;

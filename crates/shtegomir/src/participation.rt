@@ -1,14 +1,15 @@
 // The population, the rate and the participation table.
 ghost use mathlib.Core.Path.{_≡_};
 ghost use Rattle.shtegomir.specs.Participation.{form, CurveCalled};
+use crate::telling::Told;
+use crate::telling::nothing_wrong;
 use crate::telling::tell;
 use curve::Answer;
 
-// Accepted: refusal and place are 0. Refused: population and rate are 0.
+// Refused: population and rate are 0. Laid out as the header's flat shtegomir_curve.
 #[repr(C)]
 pub struct Curve {
-    pub refusal: u64,
-    pub place: u64,
+    pub told: Told,
     pub population: u32,
     pub rate: u32,
 }
@@ -17,17 +18,18 @@ fn flatten(answer: Answer) -> Curve
     ensures { λ r. ⌜ r ≡ form answer ⌝ }
 {
     match answer {
-        Answer::Accepted { population, rate } => Curve {
-            refusal: 0,
-            place: 0,
-            population,
-            rate,
-        },
+        Answer::Accepted { population, rate } => {
+            let told = nothing_wrong();
+            Curve {
+                told,
+                population,
+                rate,
+            }
+        }
         Answer::Refused(x) => {
             let told = tell(x);
             Curve {
-                refusal: told.refusal,
-                place: told.place,
+                told,
                 population: 0,
                 rate: 0,
             }

@@ -2,37 +2,37 @@
 ghost use mathlib.Core.Path.{_≡_};
 ghost use Prim.Native.Nat.{_≤_};
 ghost use Rattle.paper.specs.Limits.{mostTallied};
+ghost use Rattle.paper.specs.Rulings.{valuesOr};
 ghost use Rattle.bands.specs.Promise.{said, lent};
-ghost use Rattle.shtegomir.specs.Placing.{remainderOf, form, DirectCalled, TallyCalled};
+ghost use Rattle.shtegomir.specs.Placing.{form, DirectCalled, TallyCalled};
+use crate::telling::Told;
+use crate::telling::nothing_wrong;
 use crate::telling::tell;
 use bands::Answer;
 
-// Accepted: refusal and place are 0. Refused: the remainder is 0.
+// Refused: the remainder is 0. Laid out as the header's flat shtegomir_placed.
 #[repr(C)]
 pub struct Placed {
-    pub refusal: u64,
-    pub place: u64,
+    pub told: Told,
     pub remainder: u32,
 }
 
 // No more are left over than there are students.
 fn flatten(answer: Answer) -> Placed
-    requires { ⌜ remainderOf (said answer) ≤ mostTallied ⌝ }
+    requires { ⌜ valuesOr 0 (said answer) ≤ mostTallied ⌝ }
     ensures { λ r. ⌜ r ≡ form answer ⌝ }
 {
     match answer {
-        Answer::Accepted { remainder } => Placed {
-            refusal: 0,
-            place: 0,
-            remainder: remainder as u32,
-        },
+        Answer::Accepted { remainder } => {
+            let told = nothing_wrong();
+            Placed {
+                told,
+                remainder: remainder as u32,
+            }
+        }
         Answer::Refused(x) => {
             let told = tell(x);
-            Placed {
-                refusal: told.refusal,
-                place: told.place,
-                remainder: 0,
-            }
+            Placed { told, remainder: 0 }
         }
     }
 }
@@ -57,7 +57,7 @@ pub extern "C" fn shtegomir_place_tally(
     bands: &mut [u16],
     counts: &mut [u32],
 ) -> Placed
-    ensures { λ r. ⌜ TallyCalled (now (aggregates .entry)) (now (table .entry)) population (lent (now (counts .entry)) (now (bands .entry))) r (lent (now (counts .exit)) (now (bands .exit))) ⌝ }
+    ensures { λ r. ⌜ TallyCalled (now (aggregates .entry)) (now (table .entry)) population (lent (now (bands .entry)) (now (counts .entry))) r (lent (now (bands .exit)) (now (counts .exit))) ⌝ }
 {
-    flatten(bands::place_by_tally(aggregates, table, population, counts, bands))
+    flatten(bands::place_by_tally(aggregates, table, population, bands, counts))
 }

@@ -2,40 +2,23 @@
 ghost use mathlib.Core.Path.{_≡_};
 ghost use Rattle.ranks.specs.Promise.{lent};
 ghost use Rattle.shtegomir.specs.Ranking.{form, RankCalled};
+use crate::telling::Told;
+use crate::telling::nothing_wrong;
 use crate::telling::tell;
 use ranks::Answer;
 
-// Accepted: both are 0.
-#[repr(C)]
-pub struct Ranked {
-    pub refusal: u64,
-    pub place: u64,
-}
-
-fn flatten(answer: Answer) -> Ranked
+// There is nothing more to tell: the header's shtegomir_ranked is refusal and place alone.
+fn flatten(answer: Answer) -> Told
     ensures { λ r. ⌜ r ≡ form answer ⌝ }
 {
     match answer {
-        Answer::Accepted => Ranked {
-            refusal: 0,
-            place: 0,
-        },
-        Answer::Refused(x) => {
-            let told = tell(x);
-            Ranked {
-                refusal: told.refusal,
-                place: told.place,
-            }
-        }
+        Answer::Accepted => nothing_wrong(),
+        Answer::Refused(x) => tell(x),
     }
 }
 
 #[no_mangle]
-pub extern "C" fn shtegomir_rank(
-    values: &[u32],
-    ranks: &mut [u32],
-    percentiles: &mut [u32],
-) -> Ranked
+pub extern "C" fn shtegomir_rank(values: &[u32], ranks: &mut [u32], percentiles: &mut [u32]) -> Told
     ensures { λ r. ⌜ RankCalled (now (values .entry)) (lent (now (ranks .entry)) (now (percentiles .entry))) r (lent (now (ranks .exit)) (now (percentiles .exit))) ⌝ }
 {
     flatten(ranks::ranks(values, ranks, percentiles))

@@ -1,14 +1,15 @@
 // The listing of a cohort file.
 ghost use mathlib.Core.Path.{_≡_};
 ghost use Rattle.shtegomir.specs.Text.{form, ReportCalled};
+use crate::telling::Told;
+use crate::telling::nothing_wrong;
 use crate::telling::tell;
 use report::Answer;
 
-// Accepted: refusal and place are 0. Refused: the length is 0.
+// Refused: the length is 0. Laid out as the header's flat shtegomir_text.
 #[repr(C)]
 pub struct Text {
-    pub refusal: u64,
-    pub place: u64,
+    pub told: Told,
     pub length: u64,
 }
 
@@ -16,18 +17,16 @@ fn flatten(answer: Answer) -> Text
     ensures { λ r. ⌜ r ≡ form answer ⌝ }
 {
     match answer {
-        Answer::Accepted { length } => Text {
-            refusal: 0,
-            place: 0,
-            length: length as u64,
-        },
+        Answer::Accepted { length } => {
+            let told = nothing_wrong();
+            Text {
+                told,
+                length: length as u64,
+            }
+        }
         Answer::Refused(x) => {
             let told = tell(x);
-            Text {
-                refusal: told.refusal,
-                place: told.place,
-                length: 0,
-            }
+            Text { told, length: 0 }
         }
     }
 }

@@ -137,7 +137,7 @@ fn told(answer: Answer) {
 
 // The best set of six results.
 fn chosen(catalogue: &[u8; CATALOGUE], table: &[u8; TABLE], results: &[u8; RESULTS]) {
-    let answer = bestset::best_set(catalogue, table, results, 2021);
+    let answer = bestset::best_set(catalogue, table, 2021, results);
     told(answer);
 }
 

@@ -81,7 +81,7 @@ fn tied() {
     );
     let mut counts = [0u32; TALLY_COUNT];
     let mut others = [0u16; 3];
-    let again = bands::place_by_tally(&aggregates, &full, 2000, &mut counts, &mut others);
+    let again = bands::place_by_tally(&aggregates, &full, 2000, &mut others, &mut counts);
     placed(b"not splitting tied students, by tally: ", again, &others);
 }
 

@@ -1,22 +1,22 @@
 -- What a turn of each loop adds.
-use Prim.Native.Nat.{ℕ, _+_, _-_, _*_, _≤_, _<_}
+use Prim.Native.Nat.{ℕ, zero, suc, _+_, _-_, _*_, _≤_, _<_}
 use native.Mathlib.Omega.{arith}
-use native.Mathlib.Decide.{decLt, ℕ-discrete}
+use native.Mathlib.Decide.{ℕ-discrete}
 use mathlib.Core.Path.{_≡_, refl, sym, ap, _∙_}
 use mathlib.Core.Bool.{true, false}
 use mathlib.Core.List.{List}
-use lib.ListN.{length, getD, set, length-set, List·getD-eq-default}
+use lib.ListN.{length, getD, set, length-set, replicate}
 use lib.Dec.{leb, eqb}
 use lib.Seq.{getD-set-same, getD-set-other}
 use borrow.Author.Tests.{eq-eqb, ne-eqb}
 use Rattle.paper.specs.Limits.{mostPopulation, topBand, tallyCount}
 use Rattle.paper.specs.Lists.{pick, sum, count, sumOf, listed}
-use Rattle.paper.proofs.Listing.{sum-none, sum-back, length-listed, at-list, is-listed, sumOf-end}
+use Rattle.paper.proofs.Listing.{sum-none, sum-back, is-listed, sumOf-end}
 use Rattle.tally.specs.Counts.{numberAt, tallyOf}
 use Rattle.tally.specs.Places.{onePlace, bandOf}
 use Rattle.tally.specs.Inner.{Sized}
 use Rattle.tally.specs.InnerSearch.{Stands, SearchAt, Reaches}
-use Rattle.tally.specs.InnerTally.{zeros, sumsOf, bandsBy, leftAt, remainderBy}
+use Rattle.tally.specs.InnerTally.{sumsOf, bandsBy, leftAt, remainderBy}
 use Rattle.tally.proofs.Counting.{count-next}
 use Rattle.tally.proofs.Reaching.{search-top, search-for, search-on, left-is}
 use Rattle.tally.proofs.Tallies.{sums-long, sums-at, sums-back, sums-most}
@@ -40,13 +40,10 @@ pub tally-done : (xs counts : List ℕ) (i : ℕ) → i ≡ length xs → length
 unfolding tallyOf numberAt
 tally-done xs counts i e l all = is-listed counts tallyCount (numberAt xs) l (λ t m. rw e at (all t))
 
-pub zeros-at : (n t : ℕ) → getD (zeros n) t 0 ≡ 0
-unfolding zeros
-zeros-at n t = go (decLt t n)
-  where
-    go : Dec (t < n) → getD (listed 0 n (λ t. 0)) t 0 ≡ 0
-    go (yes l) = at-list n (λ t. 0) t l
-    go (no l) = let m : length (listed 0 n (λ t. 0)) ≤ t = omega (arith, length-listed 0 n (λ t. 0)) in List·getD-eq-default (listed 0 n (λ t. 0)) 0 m
+pub zeros-at : (n t : ℕ) → getD (replicate {A = ℕ} n 0) t 0 ≡ 0
+zeros-at zero t = refl
+zeros-at (suc n) zero = refl
+zeros-at (suc n) (suc t) = zeros-at n t
 
 -- a list that a walk down has filled with f from t on
 pub record Down (before : List ℕ) (f : ℕ → ℕ) (t : ℕ) (xs : List ℕ) : Type 0 where

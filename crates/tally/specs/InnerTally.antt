@@ -6,10 +6,6 @@ use Rattle.paper.specs.Lists.{sum, sumOf, listed}
 use Rattle.paper.specs.Words.{_<?_, if_then_else_}
 use Rattle.tally.specs.Places.{onePlace, places, bandOf}
 
--- n times 0
-unfoldable pub zeros : ℕ → List ℕ
-zeros n = listed 0 n (λ t. 0)
-
 -- for each entry of a list the sum from it on
 unfoldable pub sumsOf : List ℕ → List ℕ
 sumsOf counts = listed 0 (length counts) (λ t. sumOf (drop t counts))

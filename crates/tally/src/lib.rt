@@ -1,18 +1,15 @@
 // The counts of aggregates, and the walk that turns them into bands and the remainder.
 ghost use mathlib.Core.Path.{_≡_};
-ghost use Prim.Native.Nat.{_≤_};
-ghost use lib.ListN.{length};
-ghost use Rattle.paper.specs.Limits.{mostPopulation, mostTallied, tallyCount};
-ghost use Rattle.paper.specs.Lists.{sumOf};
+ghost use lib.ListN.{length, replicate};
 ghost use Rattle.tally.specs.Counts.{tallyOf};
-ghost use Rattle.tally.specs.Inner.{Sized, Aggregates};
-ghost use Rattle.tally.specs.InnerTally.{zeros, sumsOf, bandsBy, remainderBy};
+ghost use Rattle.tally.specs.Inner.{Countable, Walkable};
+ghost use Rattle.tally.specs.InnerTally.{sumsOf, bandsBy, remainderBy};
 
 pub mod search;
 
 // All 0.
 pub fn clear(counts: &mut [u32])
-    ensures { λ _. ⌜ now (counts .exit) ≡ zeros (length (now (counts .entry))) ⌝ }
+    ensures { λ _. ⌜ now (counts .exit) ≡ replicate (length (now (counts .entry))) 0 ⌝ }
 {
     let mut t: usize = 0;
     while t < counts.len() {
@@ -23,7 +20,7 @@ pub fn clear(counts: &mut [u32])
 
 // In entry t the number of students with aggregate t, whatever the counts held before.
 pub fn count(aggregates: &[u32], counts: &mut [u32])
-    requires { ⌜ Aggregates (now aggregates) × (length (now counts) ≡ tallyCount) ⌝ }
+    requires { ⌜ Countable (now aggregates) (now counts) ⌝ }
     ensures { λ _. ⌜ now (counts .exit) ≡ tallyOf (now (aggregates .entry)) ⌝ }
 {
     clear(counts);
@@ -38,7 +35,7 @@ pub fn count(aggregates: &[u32], counts: &mut [u32])
 // Turns each count of a tally into the band of its C, from the highest aggregate down, adding it to C and going on with the band
 // search where it stopped. Answers the remainder.
 pub fn walk(table: &[u32], population: u32, counts: &mut [u32]) -> usize
-    requires { ⌜ Sized (now table) × (population ≤ mostPopulation) × (sumOf (now counts) ≤ mostTallied) ⌝ }
+    requires { ⌜ Walkable (now table) population (now counts) ⌝ }
     ensures { λ r. ⌜ (r ≡ remainderBy (now (table .entry)) population (sumsOf (now (counts .entry)))) × (now (counts .exit) ≡ bandsBy (now (table .entry)) population (sumsOf (now (counts .entry)))) ⌝ }
 {
     let mut reached = search::top(table, population);

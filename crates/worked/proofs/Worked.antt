@@ -32,7 +32,7 @@ use Rattle.tally.specs.Examples.{full}
 use Rattle.tally.proofs.Reaching.{none-fit}
 use Rattle.bands.specs.declared.Answer.{Answer as BandsAnswer}
 use Rattle.bands.specs.Placing.{remainder}
-use Rattle.bands.specs.Search.{bandsOf}
+use Rattle.bands.specs.Bands.{bandsOf}
 use Rattle.bands.specs.Promise.{directRules, tallyRules, Lent, said as saidBands}
 use Rattle.bands.proofs.ByHand.{full-within}
 use Rattle.bands.proofs.Promised.{tells, owes, tally-owes}

@@ -18,4 +18,4 @@ pub data Rated (figures : List ℕ) (r : CurveAnswer) : Type 0 where
 pub data Placed (aggregates table : List ℕ) (Y : ℕ) (r : BandsAnswer) (bands : List ℕ) : Type 0 where
   directly : (before : List ℕ) → length before ≡ length aggregates → BandsPromise aggregates table Y before r bands → Placed aggregates table Y r bands
   byTally : (before : Lent) (counts : List ℕ) → length (before .counts) ≡ tallyCount → length (before .bands) ≡ length aggregates
-      → TallyPromise aggregates table Y before r (lent counts bands) → Placed aggregates table Y r bands
+      → TallyPromise aggregates table Y before r (lent bands counts) → Placed aggregates table Y r bands

@@ -10,7 +10,7 @@ use Rattle.worked.specs.Example.{_·_, chosen, counted, Example, best-se
 
 -- six Generals at 50.00, one an English C
 abbrev pub six : Student
-six = student catalogue2 (result 0 letterC 50 (result 1 letterB 50 (three (result 8 letterB 50 [])))) 2021
+six = student catalogue2 2021 (result 0 letterC 50 (result 1 letterB 50 (three (result 8 letterB 50 []))))
 
 unfoldable pub examples : List Example
 examples =

@@ -20,7 +20,7 @@ rules c =
     let a = c .before .before .before .before .before .args in
     tallyRules (a .aggregates .now) (a .table .now) (a .population) (length (a .bands .now)) (length (a .counts .now))
 
-refused-here : (c : tie.After-known-told) → let a = c .before .before .before .before .before .before .before .before .args in let before = lent (a .counts .now) (a .bands .now) in TallyPromise (a .aggregates .now) (a .table .now) (a .population) before (Refused (c .before .screened .given .0 .0)) before
+refused-here : (c : tie.After-known-told) → let a = c .before .before .before .before .before .before .before .before .args in let before = lent (a .bands .now) (a .counts .now) in TallyPromise (a .aggregates .now) (a .table .now) (a .population) before (Refused (c .before .screened .given .0 .0)) before
 refused-here c =
     let d = c .before .before .before in
     record { says = screened-refused (rules d) (d .by-tally .ensures) _ (c .before .screened .given .1); leaves = refl }

@@ -17,7 +17,7 @@ enum-known-verdict c = search needs
 returns : tie.Need-returns
 returns c =
     let a = c .before .before .before .before .before .before .before .args in
-    promise-refused (student (a .catalogue .now) (a .results .now) (a .year)) (a .table .now) (c .before .verdict .given .0 .0) (sym (c .before .before .before .judge .ensures) ∙ ap ruled (c .before .verdict .given .1))
+    promise-refused (student (a .catalogue .now) (a .year) (a .results .now)) (a .table .now) (c .before .verdict .given .0 .0) (sym (c .before .before .before .judge .ensures) ∙ ap ruled (c .before .verdict .given .1))
 
 enum-told : tie.Need-enum-told
 enum-told c = search needs

@@ -1,6 +1,9 @@
-use Rattle.bestset.proofs.Bridge.{few-held, outcome, testOf, test-of, sought, found-answered}
+use mathlib.Core.List.{List}
+use Prim.Native.Nat.{ℕ}
+use Rattle.bestset.proofs.Bridge.{few-held, outcome, TestOf, testOf, test-of, sought, found-answered}
+use Rattle.seek.specs.declared.search.Test.{Test}
 use Rattle.bestset.specs.Promise.{Answered}
-use Rattle.results.specs.Results.{student}
+use Rattle.results.specs.Results.{Student, student}
 use borrow.Author.Needs.{needs}
 use Rattle.bestset.proofs.choose.Statement.{statement}
 use Rattle.bestset.proofs.choose.Tie as tie
@@ -8,29 +11,55 @@ use Rattle.bestset.proofs.repeats.kept_of.Reads as kept-of-reads
 use Rattle.seek.proofs.packing.pack.Reads as pack-reads
 use Rattle.seek.proofs.search.search.Reads as search-reads
 
-answered : (c : tie.After-search) → let g = c .before .before .before .before .before .before .before .before .before .before .before .args in Answered (student (g .catalogue .now) (g .results .now) (g .year)) (g .table .now) (outcome (c .search .result))
+-- the places: the start, and after the calls
+abbrev start : tie.After-identities → tie.Start
+start c = c .before .before .before .before .before .before
+
+abbrev begun : tie.After-kept-of → tie.Start
+begun c = start (c .before)
+
+abbrev kept : tie.After-pack → tie.After-kept-of
+kept c = c .before .before
+
+abbrev packed : tie.After-scores2 → tie.After-pack
+packed c = c .before
+
+-- the student and the table; what the search reads
+module _ (s : tie.Start) where
+  abbrev who : Student
+  who = student (s .args .catalogue .now) (s .args .year) (s .args .results .now)
+
+  abbrev table : List ℕ
+  table = s .args .table .now
+
+abbrev test : tie.After-pack → Test
+test c = testOf (begun (kept c) .args .read) (kept c .kept-of .result) (c .pack .result)
+
+tests : (c : tie.After-pack) → TestOf (who (begun (kept c))) (test c)
+tests c =
+    let s = begun (kept c) in
+    let k = kept c .kept-of in
+    test-of (who s) (table s) (s .args .read) (k .result) _ (few-held (who s) (table s) (s .pre .formed)) (s .pre .all) (k .ensures) (c .pack .ensures)
+
+answered : (c : tie.After-search) → let s = begun (kept (packed (c .before))) in Answered (who s) (table s) (outcome (c .search .result))
 answered c =
-    let g = c .before .before .before .before .before .before .before .before .before .before .before .args in
-    let p = c .before .before .before .before .before .before .before .before .before .before .before .pre in
-    let k = c .before .before .before .before .kept-of in
-    let s = student (g .catalogue .now) (g .results .now) (g .year) in
-    let test = test-of s (g .table .now) (g .read) (k .result) _ (few-held s (g .table .now) (p .0)) (p .1) (k .ensures) (c .before .before .pack .ensures) in
-    found-answered _ _ (p .0) (testOf (g .read) (k .result) (c .before .before .pack .result)) test (g .read .scores) (p .1 .scores-are) (c .search .result) (c .search .ensures)
+    let d = packed (c .before) in
+    let s = begun (kept d) in
+    found-answered _ _ (s .pre .formed) (test d) (tests d) (s .args .read .scores) (s .pre .all .scores-are) (c .search .result) (c .search .ensures)
 
 kept-of-requires : tie.Need-kept-of-requires
-kept-of-requires c κs = few-held (student (c .before .before .before .before .before .before .args .catalogue .now) (c .before .before .before .before .before .before .args .results .now) (c .before .before .before .before .before .before .args .year)) (c .before .before .before .before .before .before .args .table .now) (c .before .before .before .before .before .before .pre .0)
+kept-of-requires c κs =
+    let s = start c in
+    few-held (who s) (table s) (s .pre .formed)
 
 pack-requires : tie.Need-pack-requires
 pack-requires c κs = search needs
 
 search-requires : tie.Need-search-requires
 search-requires c κs =
-    let g = c .before .before .before .before .before .before .before .before .before .before .args in
-    let p = c .before .before .before .before .before .before .before .before .before .before .pre in
-    let k = c .before .before .before .kept-of in
-    let s = student (g .catalogue .now) (g .results .now) (g .year) in
-    let test = test-of s (g .table .now) (g .read) (k .result) _ (few-held s (g .table .now) (p .0)) (p .1) (k .ensures) (c .before .pack .ensures) in
-    sought s (g .table .now) (p .0) (testOf (g .read) (k .result) (c .before .pack .result)) test (g .read .scores) (p .1 .scores-are)
+    let d = packed c in
+    let s = begun (kept d) in
+    sought (who s) (table s) (s .pre .formed) (test d) (tests d) (s .args .read .scores) (s .pre .all .scores-are)
 
 enum-told : tie.Need-enum-told
 enum-told c = search needs

@@ -10,6 +10,7 @@ use Rattle.estimate.proofs.read_input.Tie as tie
 use Rattle.io.proofs.count.Reads as count-reads
 use Rattle.libc.proofs.read.Reads as read-reads
 
+-- n bytes of the file are read, and the buffer keeps its length
 abbrev Inv-loop : tie.InvT-loop
 Inv-loop file₀ n₀ file n = (n ≤ length file) × (length file ≡ length file₀)
 

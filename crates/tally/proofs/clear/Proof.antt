@@ -1,14 +1,14 @@
--- Below t all counts are 0.
-use Rattle.tally.specs.InnerTally.{zeros}
+use Rattle.paper.proofs.Listing.{is-listed}
 use Rattle.paper.proofs.Filling.{Filled, none-filled, next-filled, all-filled}
-use lib.ListN.{length}
-use mathlib.Core.Path.{refl}
+use lib.ListN.{length, replicate, length-replicate, getD-replicate}
+use mathlib.Core.Path.{refl, sym, _∙_}
 use native.Mathlib.Omega.{arith}
 use Prim.Native.Nat.{_-_}
 use borrow.Author.Needs.{needs}
 use Rattle.tally.proofs.clear.Statement.{statement}
 use Rattle.tally.proofs.clear.Tie as tie
 
+-- below t all counts are 0
 abbrev Inv-loop : tie.InvT-loop
 Inv-loop counts₀ t₀ counts t = Filled (length counts₀) (λ j. 0) t counts
 
@@ -37,8 +37,9 @@ same-length : tie.Need-same-length Inv-loop μ-loop
 same-length c = c .before .loop .inv .long
 
 returns : tie.Need-returns Inv-loop μ-loop
-unfolding zeros
-returns c = all-filled (c .before .loop .inv) (omega arith)
+returns c =
+    let n = length (c .before .before .args .counts .now) in
+    all-filled (c .before .loop .inv) (omega arith) ∙ sym (is-listed (replicate n 0) n (λ t. 0) (length-replicate n 0) (λ t l. getD-replicate n t 0 0 l))
 
 pub clear-spec : {M : Type 1} → statement M
 clear-spec =

@@ -1,6 +1,5 @@
--- Each entry t has the number of students below i with aggregate t.
 use mathlib.Core.List.{List}
-use Rattle.paper.specs.Limits.{tallyCount}
+use Rattle.paper.specs.Limits.{mostAggregate, tallyCount}
 use Rattle.tally.proofs.Turns.{tally-next, tally-done, zeros-at}
 use Rattle.paper.proofs.Listing.{count-none, count-within}
 use Rattle.paper.specs.Lists.{count}
@@ -14,17 +13,41 @@ use Rattle.tally.proofs.count.Statement.{statement}
 use Rattle.tally.proofs.count.Tie as tie
 use Rattle.tally.proofs.clear.Reads as clear-reads
 
+-- each entry t has the number of students below i with aggregate t
 abbrev Inv-loop : tie.InvT-loop
 Inv-loop aggregates counts₀ i₀ counts i = (length counts ≡ tallyCount) × (i ≤ length aggregates) × ((t : ℕ) → getD counts t 0 ≡ count i (λ j. eqb (getD aggregates j 0) t))
 
 abbrev μ-loop : tie.MeasureT-loop
 μ-loop aggregates counts₀ i₀ counts i = length aggregates - i
 
+-- at a turn of the loop: the start, the aggregates, and the aggregate of student i
+module _ (c : tie.At-loop Inv-loop μ-loop) where
+  abbrev start : tie.Start Inv-loop μ-loop
+  start = c .before .before .before .before .before .before .before
+
+  abbrev given : List ℕ
+  given = start .args .aggregates .now
+
+  abbrev own : ℕ
+  own = getD given (c .loop .i) 0
+
+  within : own ≤ mostAggregate
+  within = start .pre .students .each (c .loop .i)
+
+-- where the aggregate is read, and where its entry is
+abbrev at-read : tie.After-shared-slice-known2 Inv-loop μ-loop → tie.At-loop Inv-loop μ-loop
+at-read c = c .before .before
+
+abbrev at-entry : tie.After-slice-known3 Inv-loop μ-loop → tie.At-loop Inv-loop μ-loop
+at-entry c = c .before .before .before
+
 clear-requires : tie.Need-clear-requires Inv-loop μ-loop
 clear-requires c κs = search needs
 
 loop-holds : tie.Need-loop-holds Inv-loop μ-loop
-loop-holds c = (omega (arith, c .before .before .clear .kept .0), omega arith, λ t. ap (λ (l : List ℕ). getD l t 0) (c .before .before .clear .ensures) ∙ zeros-at _ t ∙ sym (count-none _))
+loop-holds c =
+    let d = c .before .before in
+    (omega (arith, d .clear .kept .0), omega arith, λ t. ap (λ (l : List ℕ). getD l t 0) (d .clear .ensures) ∙ zeros-at (length (d .before .before .before .before .args .counts .now)) t ∙ sym (count-none _))
 
 mul-a : tie.Need-mul-a Inv-loop μ-loop
 mul-a c = search needs
@@ -33,22 +56,21 @@ shared-slice-read-a : tie.Need-shared-slice-read-a Inv-loop μ-loop
 shared-slice-read-a c = search needs
 
 cast-a : tie.Need-cast-a Inv-loop μ-loop
-cast-a c = omega (arith, c .before .before .before .before .before .before .before .before .before .pre .0 .each (c .before .before .loop .i))
+cast-a c = omega (arith, within (at-read c))
 
 mul-counts : tie.Need-mul-counts Inv-loop μ-loop
-mul-counts c = omega (arith, c .before .before .before .before .before .before .before .before .before .pre .0 .each (c .before .before .loop .i))
+mul-counts c = omega (arith, within (at-read c))
 
 slice-read-counts : tie.Need-slice-read-counts Inv-loop μ-loop
-slice-read-counts c = omega (arith, c .before .before .before .before .before .before .before .before .before .before .pre .0 .each (c .before .before .before .loop .i))
+slice-read-counts c = omega (arith, within (at-entry c))
 
 add-counts : tie.Need-add-counts Inv-loop μ-loop
 add-counts c =
-    let xs = c .before .before .before .before .before .before .before .before .before .before .args .aggregates .now in
-    let a = getD xs (c .before .before .before .loop .i) 0 in
-    omega (arith, c .before .before .before .loop .inv .2 a, count-within (c .before .before .before .loop .i) (λ j. eqb (getD xs j 0) a), c .before .before .before .before .before .before .before .before .before .before .pre .0 .few)
+    let d = at-entry c in
+    omega (arith, d .loop .inv .2 (own d), count-within (d .loop .i) (λ j. eqb (getD (given d) j 0) (own d)), start d .pre .students .few)
 
 slice-write-counts : tie.Need-slice-write-counts Inv-loop μ-loop
-slice-write-counts c = omega (arith, c .before .before .before .before .before .before .before .before .before .before .pre .0 .each (c .before .before .before .loop .i))
+slice-write-counts c = omega (arith, within (at-entry c))
 
 add-i : tie.Need-add-i Inv-loop μ-loop
 add-i c = search needs
@@ -58,14 +80,16 @@ loop-less c = search needs
 
 loop-again : tie.Need-loop-again Inv-loop μ-loop
 loop-again c =
-    let xs = c .before .before .before .before .before .before .before .before .before .before .args .aggregates .now in
-    (search needs, omega arith, tally-next xs (c .before .before .before .loop .counts) (c .before .before .before .loop .i) _ refl (omega (arith, c .before .before .before .before .before .before .before .before .before .before .pre .0 .each (c .before .before .before .loop .i))) (c .before .before .before .loop .inv .2))
+    let d = at-entry c in
+    (search needs, omega arith, tally-next (given d) (d .loop .counts) (d .loop .i) _ refl (omega (arith, within d)) (d .loop .inv .2))
 
 same-length : tie.Need-same-length Inv-loop μ-loop
-same-length c = c .before .loop .inv .0 ∙ sym (c .before .before .before .before .before .before .before .before .pre .1)
+same-length c = c .before .loop .inv .0 ∙ sym (start (c .before) .pre .long)
 
 returns : tie.Need-returns Inv-loop μ-loop
-returns c = tally-done _ _ (c .before .loop .i) (omega arith) (c .before .loop .inv .0) (c .before .loop .inv .2)
+returns c =
+    let d = c .before in
+    tally-done _ _ (d .loop .i) (omega arith) (d .loop .inv .0) (d .loop .inv .2)
 
 pub count-spec : {M : Type 1} → statement M
 count-spec =

@@ -1,4 +1,3 @@
--- Below i the bands are those found at the aggregates.
 use Rattle.bands.specs.Inner.{readOf}
 use Rattle.paper.proofs.Filling.{Filled, none-filled, next-filled, all-filled}
 use lib.ListN.{length, getD}
@@ -9,6 +8,7 @@ use borrow.Author.Needs.{needs}
 use Rattle.bands.proofs.by_tally.read.Statement.{statement}
 use Rattle.bands.proofs.by_tally.read.Tie as tie
 
+-- below i the bands are those found at the aggregates
 abbrev Inv-loop : tie.InvT-loop
 Inv-loop aggregates found bands₀ i₀ bands i = Filled (length aggregates) (λ j. getD found (getD aggregates j 0) 0) i bands
 
@@ -16,7 +16,7 @@ abbrev μ-loop : tie.MeasureT-loop
 μ-loop aggregates found bands₀ i₀ bands i = length aggregates - i
 
 loop-holds : tie.Need-loop-holds Inv-loop μ-loop
-loop-holds c = none-filled _ _ _ (c .pre .3)
+loop-holds c = none-filled _ _ _ (c .pre .lent)
 
 mul-a : tie.Need-mul-a Inv-loop μ-loop
 mul-a c = search needs
@@ -25,16 +25,16 @@ shared-slice-read-a : tie.Need-shared-slice-read-a Inv-loop μ-loop
 shared-slice-read-a c = search needs
 
 cast-a : tie.Need-cast-a Inv-loop μ-loop
-cast-a c = omega (arith, c .before .before .before .pre .0 .each (c .before .before .loop .i))
+cast-a c = omega (arith, c .before .before .before .pre .students .each (c .before .before .loop .i))
 
 mul-bands : tie.Need-mul-bands Inv-loop μ-loop
-mul-bands c = omega (arith, c .before .before .before .pre .0 .each (c .before .before .loop .i))
+mul-bands c = omega (arith, c .before .before .before .pre .students .each (c .before .before .loop .i))
 
 shared-slice-read-bands : tie.Need-shared-slice-read-bands Inv-loop μ-loop
-shared-slice-read-bands c = omega (arith, c .before .before .before .before .pre .0 .each (c .before .before .before .loop .i))
+shared-slice-read-bands c = omega (arith, c .before .before .before .before .pre .students .each (c .before .before .before .loop .i))
 
 cast-bands : tie.Need-cast-bands Inv-loop μ-loop
-cast-bands c = omega (arith, c .before .before .before .before .pre .2 (getD (c .before .before .before .before .args .aggregates .now) (c .before .before .before .loop .i) 0))
+cast-bands c = omega (arith, c .before .before .before .before .pre .within (getD (c .before .before .before .before .args .aggregates .now) (c .before .before .before .loop .i) 0))
 
 mul-bands-2 : tie.Need-mul-bands-2 Inv-loop μ-loop
 mul-bands-2 c = search needs
@@ -52,7 +52,7 @@ loop-again : tie.Need-loop-again Inv-loop μ-loop
 loop-again c = next-filled _ (c .before .before .before .loop .inv) (c .before .before .loop-test .taken) refl
 
 same-length : tie.Need-same-length Inv-loop μ-loop
-same-length c = c .before .loop .inv .long ∙ sym (c .before .before .pre .3)
+same-length c = c .before .loop .inv .long ∙ sym (c .before .before .pre .lent)
 
 returns : tie.Need-returns Inv-loop μ-loop
 unfolding readOf

@@ -4,8 +4,9 @@ use Rattle.bestset.specs.InnerMarks.{Masked, ByPosition, withOne}
 use Rattle.scores.specs.Scores.{Found}
 use Rattle.results.specs.declared.reading.Result.{Result}
 use Rattle.results.specs.Scoring.{worth, score, scoreAt, ownIdentity, identityAt}
-use Rattle.results.specs.Results.{heldIn, student, result}
+use Rattle.results.specs.Results.{heldIn, Student, student, held, result}
 use Rattle.paper.specs.Limits.{mostResults}
+use mathlib.Core.List.{List}
 use lib.ListN.{length, length-set}
 use native.Mathlib.Omega.{arith}
 use native.Mathlib.Numerals.{add-one}
@@ -23,10 +24,31 @@ use Rattle.results.proofs.scoring.slot_of.Reads as slot-of-reads
 
 -- the results before i are read: their masks, and their scores and identities by position
 abbrev Inv-loop : tie.InvT-loop
-Inv-loop catalogue table results year masks₀ scores₀ identities₀ i₀ masks scores identities i = (i ≤ heldIn results) × (length scores ≡ mostResults) × (length identities ≡ mostResults) × Masked (student catalogue results year) i masks × ByPosition (scoreAt (student catalogue results year) table) i scores × ByPosition (identityAt (student catalogue results year)) i identities
+Inv-loop catalogue table year results masks₀ scores₀ identities₀ i₀ masks scores identities i = (i ≤ heldIn results) × (length scores ≡ mostResults) × (length identities ≡ mostResults) × Masked (student catalogue year results) i masks × ByPosition (scoreAt (student catalogue year results) table) i scores × ByPosition (identityAt (student catalogue year results)) i identities
 
 abbrev μ-loop : tie.MeasureT-loop
-μ-loop catalogue table results year masks₀ scores₀ identities₀ i₀ masks scores identities i = heldIn results - i
+μ-loop catalogue table year results masks₀ scores₀ identities₀ i₀ masks scores identities i = heldIn results - i
+
+-- at a turn of the loop: the start, and the student; at most sixteen results are held
+module _ (c : tie.At-loop Inv-loop μ-loop) where
+  abbrev start : tie.Start Inv-loop μ-loop
+  start = c .before .before .before .before .before
+
+  abbrev who : Student
+  who = student (start .args .catalogue .now) (start .args .year) (start .args .results .now)
+
+  abbrev table : List ℕ
+  table = start .args .table .now
+
+  few : held who ≤ mostResults
+  few = start .pre
+
+-- the places of a turn: where the result is read, and where its score is
+abbrev at-result : tie.After-result-at Inv-loop μ-loop → tie.At-loop Inv-loop μ-loop
+at-result c = c .before .before
+
+abbrev at-score : tie.After-score-of Inv-loop μ-loop → tie.After-result-at Inv-loop μ-loop
+at-score c = c .before .before .before
 
 unmarked-requires : tie.Need-unmarked-requires Inv-loop μ-loop
 unmarked-requires c κs = search needs
@@ -38,7 +60,7 @@ result-at-requires : tie.Need-result-at-requires Inv-loop μ-loop
 result-at-requires c κs = search needs
 
 with-one-requires : tie.Need-with-one-requires Inv-loop μ-loop
-with-one-requires c κs = omega (arith, c .before .before .before .before .before .before .before .pre)
+with-one-requires c κs = omega (arith, few (at-result c))
 
 slot-of-requires : tie.Need-slot-of-requires Inv-loop μ-loop
 slot-of-requires c κs = search needs
@@ -50,7 +72,7 @@ mul-scores : tie.Need-mul-scores Inv-loop μ-loop
 mul-scores c = search needs
 
 array-write-scores : tie.Need-array-write-scores Inv-loop μ-loop
-array-write-scores c = omega (arith, c .before .before .before .before .before .before .before .before .before .before .pre)
+array-write-scores c = omega (arith, few (at-result (at-score c)))
 
 identity-of-requires : tie.Need-identity-of-requires Inv-loop μ-loop
 identity-of-requires c κs = search needs
@@ -59,7 +81,7 @@ mul-identities : tie.Need-mul-identities Inv-loop μ-loop
 mul-identities c = search needs
 
 array-write-identities : tie.Need-array-write-identities Inv-loop μ-loop
-array-write-identities c = omega (arith, c .before .before .before .before .before .before .before .before .before .before .before .pre)
+array-write-identities c = omega (arith, few (at-result (at-score (c .before))))
 
 add-i : tie.Need-add-i Inv-loop μ-loop
 add-i c = search needs
@@ -70,32 +92,35 @@ loop-less c = search needs
 loop-again : tie.Need-loop-again Inv-loop μ-loop
 unfolding score
 loop-again c =
-    let a = c .before .before .before .before .before .before .before .before .before .before .before .args in
-    let s = student (a .catalogue .now) (a .results .now) (a .year) in
-    let i = c .before .before .before .before .before .before .loop .i in
-    let inv = c .before .before .before .before .before .before .loop .inv in
-    let few = c .before .before .before .before .before .before .before .before .before .before .before .pre in
-    let masks : c .before .before .before .with-one .result ≡ withOne (c .before .before .before .before .before .before .loop .masks) i (result s i) (a .year) = c .before .before .before .with-one .ensures ∙ ap (λ (r : Result). withOne (c .before .before .before .before .before .before .loop .masks) i r (a .year)) (c .before .before .before .before .result-at .ensures) in
-    let worths : c .before .score-of .result ≡ scoreAt s (a .table .now) i = c .before .score-of .ensures ∙ ap worth (c .before .before .slot-of .ensures) ∙ ap (λ (r : Result). score (a .table .now) r) (c .before .before .before .before .result-at .ensures) in
-    let own : c .identity-of .result ≡ identityAt s i = c .identity-of .ensures ∙ ap ownIdentity (c .before .before .before .before .result-at .ensures) in (
+    let d = c .before in
+    let e = at-score d in
+    let turn = at-result e in
+    let s = who turn in
+    let i = turn .loop .i in
+    let inv = turn .loop .inv in
+    let most = few turn in
+    let marks = d .before .before .with-one in
+    let masks : marks .result ≡ withOne (turn .loop .masks) i (s .year) (result s i) = marks .ensures ∙ ap (λ (r : Result). withOne (turn .loop .masks) i (s .year) r) (e .result-at .ensures) in
+    let worths : d .score-of .result ≡ scoreAt s (table turn) i = d .score-of .ensures ∙ ap worth (d .before .slot-of .ensures) ∙ ap (λ (r : Result). score (table turn) r) (e .result-at .ensures) in
+    let own : c .identity-of .result ≡ identityAt s i = c .identity-of .ensures ∙ ap ownIdentity (e .result-at .ensures) in (
       omega arith,
       simp length-set (inv .1),
       simp length-set (inv .2),
-      subst (Masked s (i + 1)) (sym masks) (masked-one s i (c .before .before .before .before .before .before .loop .masks) (omega arith) (inv .3)),
-      rw (add-one i) (read-next _ i (c .before .before .before .before .before .before .loop .scores) (c .before .score-of .result) (omega arith) worths (inv .4)),
-      rw (add-one i) (read-next _ i (c .before .before .before .before .before .before .loop .identities) (c .identity-of .result) (omega arith) own (inv .5)),
+      subst (Masked s (i + 1)) (sym masks) (masked-one s i (turn .loop .masks) (omega arith) (inv .3)),
+      rw (add-one i) (read-next _ i (turn .loop .scores) (d .score-of .result) (omega arith) worths (inv .4)),
+      rw (add-one i) (read-next _ i (turn .loop .identities) (c .identity-of .result) (omega arith) own (inv .5)),
     )
 
 returns : tie.Need-returns Inv-loop μ-loop
 returns c =
-    let a = c .before .before .before .before .before .before .args in
-    let s = student (a .catalogue .now) (a .results .now) (a .year) in
-    let inv = c .before .loop .inv in
-    let e : c .before .loop .i ≡ heldIn (a .results .now) = omega arith in
+    let d = c .before in
+    let s = who d in
+    let l = d .loop in
+    let e : l .i ≡ held s = omega arith in
     record {
-      masks-are = subst (λ (n : ℕ). Masked s n (c .before .loop .masks)) e (inv .3);
-      scores-are = subst (λ (n : ℕ). ByPosition (scoreAt s (a .table .now)) n (c .before .loop .scores)) e (inv .4);
-      identities-are = subst (λ (n : ℕ). ByPosition (identityAt s) n (c .before .loop .identities)) e (inv .5);
+      masks-are = subst (λ (n : ℕ). Masked s n (l .masks)) e (l .inv .3);
+      scores-are = subst (λ (n : ℕ). ByPosition (scoreAt s (table d)) n (l .scores)) e (l .inv .4);
+      identities-are = subst (λ (n : ℕ). ByPosition (identityAt s) n (l .identities)) e (l .inv .5);
     }
 
 pub read-all-spec : {M : Type 1} → statement M

@@ -23,7 +23,7 @@ enum-known-screened c = search needs
 returns : tie.Need-returns
 returns c =
     let a = c .before .before .before .before .before .before .before .args in
-    sym (catalogue-refused (student (a .catalogue .now) (a .results .now) (a .year)) (a .table .now) _ (sym (c .before .before .before .screen .ensures .says) ∙ ap ruled (c .before .screened .given .1)))
+    sym (catalogue-refused (student (a .catalogue .now) (a .year) (a .results .now)) (a .table .now) _ (sym (c .before .before .before .screen .ensures .says) ∙ ap ruled (c .before .screened .given .1)))
 
 enum-told : tie.Need-enum-told
 enum-told c = search needs
@@ -40,7 +40,7 @@ returns-2 : tie.Need-returns-2
 returns-2 c =
     let a = c .before .before .before .before .before .before .before .before .before .before .args in
     let k = all-kept (catalogueRules (a .catalogue .now)) tt tt (sym (c .before .before .before .before .before .before .screen .ensures .says) ∙ ap ruled (c .before .before .before .before .enum-told .given .1)) in
-    sym (input-refused (student (a .catalogue .now) (a .results .now) (a .year)) (a .table .now) k _ (sym (c .before .before .before .judge-input .ensures) ∙ ap ruled (c .before .lengths .given .1)))
+    sym (input-refused (student (a .catalogue .now) (a .year) (a .results .now)) (a .table .now) k _ (sym (c .before .before .before .judge-input .ensures) ∙ ap ruled (c .before .lengths .given .1)))
 
 enum-told-2 : tie.Need-enum-told-2
 enum-told-2 c = search needs
@@ -51,7 +51,7 @@ judge-results-requires c κs = search needs
 returns-3 : tie.Need-returns-3
 returns-3 c =
     let a = c .before .before .before .before .before .before .before .before .before .before .args in
-    let s = student (a .catalogue .now) (a .results .now) (a .year) in
+    let s = student (a .catalogue .now) (a .year) (a .results .now) in
     let k = all-kept (catalogueRules (a .catalogue .now)) tt tt (sym (c .before .before .before .before .before .before .screen .ensures .says) ∙ ap ruled (c .before .before .before .before .enum-told .given .1)) in
     let l = all-kept (inputRules s (a .table .now)) tt tt (sym (c .before .before .before .judge-input .ensures) ∙ ap ruled (c .before .enum-told2 .given .1)) in
     c .judge-results .ensures ∙ sym (results-left s (a .table .now) k l)

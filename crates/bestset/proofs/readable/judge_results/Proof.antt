@@ -15,14 +15,14 @@ use Rattle.results.proofs.reading.result_at.Reads as result-at-reads
 
 -- the results before i break no rule
 abbrev Inv-loop : tie.InvT-loop
-Inv-loop catalogue table results year i₀ i = (i ≤ heldIn results) × ((j : ℕ) → j < i → Unbroken (resultRules (student catalogue results year) table j))
+Inv-loop catalogue table year results i₀ i = (i ≤ heldIn results) × ((j : ℕ) → j < i → Unbroken (resultRules (student catalogue year results) table j))
 
 abbrev μ-loop : tie.MeasureT-loop
-μ-loop catalogue table results year i₀ i = heldIn results - i
+μ-loop catalogue table year results i₀ i = heldIn results - i
 
 -- the result at i is judged by its rules
 judged-here : (c : tie.After-judge-result Inv-loop μ-loop) → let a = c .before .before .before .before .before .before .before .args in
-    ruled (c .judge-result .result) ≡ judged (resultRules (student (a .catalogue .now) (a .results .now) (a .year)) (a .table .now) (c .before .before .before .loop .i)) tt
+    ruled (c .judge-result .result) ≡ judged (resultRules (student (a .catalogue .now) (a .year) (a .results .now)) (a .table .now) (c .before .before .before .loop .i)) tt
 judged-here c = rw (c .before .result-at .ensures) at (c .judge-result .ensures)
 
 loop-holds : tie.Need-loop-holds Inv-loop μ-loop
@@ -40,7 +40,7 @@ enum-known-verdict c = search needs
 returns : tie.Need-returns Inv-loop μ-loop
 returns c =
     let a = c .before .before .before .before .before .before .before .before .before .before .args in
-    let rules = resultRules (student (a .catalogue .now) (a .results .now) (a .year)) (a .table .now) in
+    let rules = resultRules (student (a .catalogue .now) (a .year) (a .results .now)) (a .table .now) in
     sym (turn-refused _ rules tt tt _ _ (omega arith) (c .before .before .before .before .before .before .loop .inv .1) (sym (judged-here (c .before .before .before)) ∙ ap ruled (c .before .verdict .given .1)))
 
 enum-told : tie.Need-enum-told Inv-loop μ-loop
@@ -55,13 +55,13 @@ loop-less c = search needs
 loop-again : tie.Need-loop-again Inv-loop μ-loop
 loop-again c =
     let a = c .before .before .before .before .before .before .before .before .before .args in
-    let rules = resultRules (student (a .catalogue .now) (a .results .now) (a .year)) (a .table .now) in
+    let rules = resultRules (student (a .catalogue .now) (a .year) (a .results .now)) (a .table .now) in
     (omega arith, below-more _ _ (c .before .before .before .before .before .loop .inv .1) (all-kept (rules (c .before .before .before .before .before .loop .i)) tt tt (sym (judged-here (c .before .before)) ∙ ap ruled (c .enum-told .given .1))))
 
 returns-2 : tie.Need-returns-2 Inv-loop μ-loop
 returns-2 c =
     let a = c .before .before .before .before .before .args in
-    let s = student (a .catalogue .now) (a .results .now) (a .year) in
+    let s = student (a .catalogue .now) (a .year) (a .results .now) in
     sym (kept-all (turnRules s (a .table .now)) tt (turns-kept (held s) (resultRules s (a .table .now)) (λ j l. c .before .loop .inv .1 j (omega arith))))
 
 pub judge-results-spec : {M : Type 1} → statement M

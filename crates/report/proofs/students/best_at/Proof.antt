@@ -32,7 +32,7 @@ returns : tie.Need-returns
 returns c =
     let a = c .before .before .before .before .before .args in
     let n : resultBytes * a .count ≡ a .place + resultBytes * a .count - a .place = omega arith in
-    rw n (said-only (student (a .catalogue .now) (take (a .place + resultBytes * a .count - a .place) (drop (a .place) (a .results .now))) (a .year)) (a .table .now) (c .best-set .ensures))
+    rw n (said-only (student (a .catalogue .now) (a .year) (take (a .place + resultBytes * a .count - a .place) (drop (a .place) (a .results .now)))) (a .table .now) (c .best-set .ensures))
 
 pub best-at-spec : {M : Type 1} → statement M
 best-at-spec =

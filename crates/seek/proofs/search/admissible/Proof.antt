@@ -22,7 +22,9 @@ returns-4 : tie.Need-returns-4
 returns-4 c = λ a. both _ _ _ (c .before .before .before .before .before .before .before .before .before .fits .set .fits) (c .before .before .if5 .taken) (eqb-false _ _ (not-true _ (c .if6 .taken))) (a .maths)
 
 distinct-requires : tie.Need-distinct-requires
-distinct-requires c κs = (c .before .before .before .before .before .before .before .pre .0, λ i p. c .before .before .before .before .before .before .before .pre .1 i (c .before .before .before .before .before .before .before .pre .2 i p))
+distinct-requires c κs =
+    let h = c .before .before .before .before .before .before .before .pre in
+    record { few = h .few; below = λ i p. h .among i (h .kept i p) }
 
 returns-5 : tie.Need-returns-5
 returns-5 c =
@@ -37,7 +39,7 @@ returns-5 c =
     decide (c .distinct .result) (Distinct (valueIn (g .test .identities)) (g .set)) (Allowed (g .test) (g .set))
     (λ d. record {
       small = small;
-      kept = c .before .before .before .before .before .before .before .before .pre .2;
+      kept = c .before .before .before .before .before .before .before .before .pre .kept;
       five = omega (arith, length-set (g .set) small);
       general = omega (arith, count-set (g .set) (g .test .general) small);
       english = english;

@@ -38,11 +38,11 @@ shl-if1 : tie.Need-shl-if1 Inv-loop μ-loop
 shl-if1 c = search needs
 
 shares-later-requires : tie.Need-shares-later-requires Inv-loop μ-loop
-shares-later-requires c κs = (omega (arith, c .before .before .before .pre .0), c .before .before .before .pre .0, c .before .before .before .pre .1)
+shares-later-requires c κs = (omega (arith, c .before .before .before .pre .few), c .before .before .before .pre)
 
 returns : tie.Need-returns Inv-loop μ-loop
 returns c =
-    let few = c .before .before .before .before .before .pre .0 in
+    let few = c .before .before .before .before .before .pre .few in
     let r : Shares (valueIn (c .before .before .before .before .before .args .identities)) (c .before .before .before .before .before .args .set) (c .before .before .before .before .loop .i) = rw (c .if2 .taken) at (c .before .shares-later .ensures) in
     λ d. r .some (d _ _ (r .later) (test-in (c .before .before .before .before .before .args .set) (c .before .before .before .before .loop .i) (omega arith) (c .before .before .if1 .taken)) (r .member) (r .same))
 
@@ -57,11 +57,11 @@ loop-again c =
     below-more _ _ (c .before .before .loop .inv)
     (⊎-elim
     (λ w p. rw (w .2 .left) at (w .1 .ensures))
-    (λ w p. absurd (test-not _ _ (omega (arith, c .before .before .before .pre .0)) (w .left) p))
+    (λ w p. absurd (test-not _ _ (omega (arith, c .before .before .before .pre .few)) (w .left) p))
     (c .if1 .came))
 
 returns-2 : tie.Need-returns-2 Inv-loop μ-loop
-returns-2 c = λ i j h p q e. not-repeated _ (c .before .before .args .set) i j (c .before .loop .inv i (omega (arith, c .before .before .pre .1 i p)) p) h q e
+returns-2 c = λ i j h p q e. not-repeated _ (c .before .before .args .set) i j (c .before .loop .inv i (omega (arith, c .before .before .pre .below i p)) p) h q e
 
 pub distinct-spec : {M : Type 1} → statement M
 distinct-spec =

@@ -16,26 +16,54 @@ use Rattle.seek.proofs.search.search.Statement.{statement}
 use Rattle.seek.proofs.search.search.Tie as tie
 use Rattle.seek.proofs.search.with_fourth.Reads as with-fourth-reads
 
--- the best is that of the sets tried: all but those that go on from the set at which the search stands by results from `at` on, and those after them
+-- the results after the last member are open again down to `at`, and the best is that of the sets tried: all that go on from the set, and those before them
 abbrev Inv-back : tie.InvT-back
 Inv-back test scores held best set₀ sum₀ at₀ members set sum at = (set ≡ set₀) × (ones set ≤ 3) × Stands (Allowed test) (valueAt scores) (test .kept) held (key mostResults set) best at set sum
 
 abbrev μ-back : tie.MeasureT-back
 μ-back test scores held best set₀ sum₀ at₀ members set sum at = at
 
+-- the best is that of the sets tried: all but those that go on from the set at which the search stands by results from `at` on, and those after them
 abbrev Inv-sets : tie.InvT-sets
 Inv-sets test scores held best₀ set₀ sum₀ at₀ best set sum at = (ones set ≤ 3) × Stands (Allowed test) (valueAt scores) (test .kept) held (room at set) best at set sum
 
 abbrev μ-sets : tie.MeasureT-sets
 μ-sets test scores held best₀ set₀ sum₀ at₀ best set sum at = left at set
 
-enough : (c : tie.Then2 Inv-back μ-back Inv-sets μ-sets) → (let s = c .before .before in let g = s .before .args in s .sets .at + members ≤ g .held + ones (s .sets .set))
-enough c = let s = c .before .before in let g = s .before .args in leb-true (s .sets .at + members) (g .held + ones (s .sets .set)) (c .if2 .taken)
+-- the places: at a set; where a result can join it, where a kept one does, and after; where none can, and after the sets of three; where the last member leaves
+abbrev joining : tie.Then2 Inv-back μ-back Inv-sets μ-sets → tie.At-sets Inv-back μ-back Inv-sets μ-sets
+joining c = c .before .before
 
-last : (c : tie.After-sum2 Inv-back μ-back Inv-sets μ-sets) → In (c .before .before .before .back .at - 1) (c .before .before .before .back .set)
+abbrev kept : tie.Then3 Inv-back μ-back Inv-sets μ-sets → tie.Then2 Inv-back μ-back Inv-sets μ-sets
+kept c = c .before .before
+
+abbrev joined : tie.Joined3 Inv-back μ-back Inv-sets μ-sets → tie.Then2 Inv-back μ-back Inv-sets μ-sets
+joined c = c .before .before
+
+abbrev ended : tie.Joined4 Inv-back μ-back Inv-sets μ-sets → tie.At-sets Inv-back μ-back Inv-sets μ-sets
+ended c = c .before .before
+
+abbrev leaving : tie.After-sum2 Inv-back μ-back Inv-sets μ-sets → tie.In-back Inv-back μ-back Inv-sets μ-sets
+leaving c = c .before .before
+
+-- at a set: as few results as the limit are held; where a result can join, members and results left can come to five
+few : (s : tie.At-sets Inv-back μ-back Inv-sets μ-sets) → s .before .args .held ≤ mostResults
+few s = s .before .pre .few
+
+enough : (c : tie.Then2 Inv-back μ-back Inv-sets μ-sets) → let s = joining c in s .sets .at + members ≤ s .before .args .held + ones (s .sets .set)
+enough c =
+    let s = joining c in
+    leb-true (s .sets .at + members) (s .before .args .held + ones (s .sets .set)) (c .if2 .taken)
+
+-- where the last member leaves: few, and it is a member
+few-back : (d : tie.At-back Inv-back μ-back Inv-sets μ-sets) → ended (d .before) .before .args .held ≤ mostResults
+few-back d = few (ended (d .before))
+
+last : (c : tie.After-sum2 Inv-back μ-back Inv-sets μ-sets) → let b = leaving c .before .back in In (b .at - 1) (b .set)
 last c =
-    let b = c .before .before .before .back in
-    test-in (b .set) (b .at - 1) (omega (arith, c .before .before .before .before .before .before .before .pre .few, b .inv .2 .place .low)) (c .before .if5 .taken)
+    let d = leaving c .before in
+    let b = d .back in
+    test-in (b .set) (b .at - 1) (omega (arith, few-back d, b .inv .2 .place .low)) (c .before .if5 .taken)
 
 sets-holds : tie.Need-sets-holds Inv-back μ-back Inv-sets μ-sets
 sets-holds c = starts
@@ -53,59 +81,66 @@ cast-if3 : tie.Need-cast-if3 Inv-back μ-back Inv-sets μ-sets
 cast-if3 c = search needs
 
 shl-if3 : tie.Need-shl-if3 Inv-back μ-back Inv-sets μ-sets
-shl-if3 c = omega (arith, enough c, c .before .before .before .pre .few)
+shl-if3 c = omega (arith, enough c, few (joining c))
 
 cast-set : tie.Need-cast-set Inv-back μ-back Inv-sets μ-sets
 cast-set c = search needs
 
 shl-set : tie.Need-shl-set Inv-back μ-back Inv-sets μ-sets
-shl-set c = omega (arith, enough (c .before .before), c .before .before .before .before .before .pre .few)
+shl-set c = omega (arith, enough (kept c), few (joining (kept c)))
 
 mul-sum : tie.Need-mul-sum Inv-back μ-back Inv-sets μ-sets
 mul-sum c = search needs
 
 element-copy-out-sum : tie.Need-element-copy-out-sum Inv-back μ-back Inv-sets μ-sets
-element-copy-out-sum c = omega (arith, enough (c .before .before), c .before .before .before .before .before .pre .few)
+element-copy-out-sum c = omega (arith, enough (kept c), few (joining (kept c)))
 
 add-sum : tie.Need-add-sum Inv-back μ-back Inv-sets μ-sets
-add-sum c = omega (arith, sum-fits (c .before .before .before .before .before .before .pre) (c .before .before .before .before .before .sets .inv .1) (c .before .before .before .before .before .sets .at))
+add-sum c =
+    let s = joining (kept (c .before)) in
+    omega (arith, sum-fits (s .before .pre) (s .sets .inv .1) (s .sets .at))
 
 add-at : tie.Need-add-at Inv-back μ-back Inv-sets μ-sets
 add-at c = search needs
 
 sets-less : tie.Need-sets-less Inv-back μ-back Inv-sets μ-sets
 sets-less c =
-    let low = enough (c .before .before) in
-    let few = c .before .before .before .before .before .pre .few in
+    let s = joining (joined c) in
+    let low = enough (joined c) in
+    let most = few s in
     ⊎-elim
-    (λ v. join-less (c .before .before .before .before .sets .at) (c .before .before .before .before .sets .set) (omega arith) (c .before .before .before .before .sets .inv .1 .place .small) (v .2))
-    (λ v. rw (v .1) (skip-less (c .before .before .before .before .sets .at) (c .before .before .before .before .sets .set) (omega arith)))
+    (λ v. join-less (s .sets .at) (s .sets .set) (omega arith) (s .sets .inv .1 .place .small) (v .2))
+    (λ v. rw (v .1) (skip-less (s .sets .at) (s .sets .set) (omega arith)))
     (c .if3 .came)
 
 sets-again : tie.Need-sets-again Inv-back μ-back Inv-sets μ-sets
 sets-again c =
-    let w = fives (c .before .before .before .before .before .args .test) (c .before .before .before .before .before .pre) in
-    let s = c .before .before .before .before .sets .inv .1 in
-    let low = enough (c .before .before) in
-    let few = c .before .before .before .before .before .pre .few in
+    let s = joining (joined c) in
+    let g = s .before .args .test in
+    let w = fives g (s .before .pre) in
+    let low = enough (joined c) in
+    let most = few s in
     ⊎-elim
     (λ v.
-    let b = test-in (c .before .before .before .before .before .args .test .kept) (c .before .before .before .before .sets .at) (omega arith) (v .0 .taken) in
-    (omega (arith, more w s (omega arith) b (v .2), c .before .before .before .if1 .taken), joins w s (omega arith) b (v .2) (v .3)))
-    (λ v. rw (v .1, v .2) (c .before .before .before .before .sets .inv .0, skips w s (omega arith) (test-out (c .before .before .before .before .before .args .test .kept) (c .before .before .before .before .sets .at) (omega arith) (v .0 .left))))
+    let b = test-in (g .kept) (s .sets .at) (omega arith) (v .0 .taken) in
+    (omega (arith, more w (s .sets .inv .1) (omega arith) b (v .2), joined c .before .if1 .taken), joins w (s .sets .inv .1) (omega arith) b (v .2) (v .3)))
+    (λ v. rw (v .1, v .2) (s .sets .inv .0, skips w (s .sets .inv .1) (omega arith) (test-out (g .kept) (s .sets .at) (omega arith) (v .0 .left))))
     (c .if3 .came)
 
 with-fourth-requires : tie.Need-with-fourth-requires Inv-back μ-back Inv-sets μ-sets
-with-fourth-requires c κs = (c .before .before .before .pre, c .if4 .taken, c .before .before .sets .inv .1)
+with-fourth-requires c κs =
+    let s = c .before .before in
+    record { sought = s .before .pre; count = c .if4 .taken; stands = s .sets .inv .1 }
 
 back-holds : tie.Need-back-holds Inv-back μ-back Inv-sets μ-sets
 back-holds c =
-    let g = c .before .before .before .args in
-    let t = c .before .before .sets in
+    let d = ended c .before in
+    let g = d .args in
+    let t = ended c .sets in
     let s = t .inv .1 in
     let done : ((ones (t .set) ≡ 3) → ⊥) → Tried (Allowed (g .test)) (valueAt (g .scores .now)) (key mostResults (t .set)) (t .best) =
     λ n.
-    short (fives (g .test) (c .before .before .before .pre)) s
+    short (fives (g .test) (d .pre)) s
     (⊎-elim
     (λ v. omega (arith, leb-false (t .at + members) (g .held + ones (t .set)) (v .1 .left), v .0 .taken))
     (λ v. let i = t .inv .0 in absurd (n (omega (arith, v .left))))
@@ -138,22 +173,34 @@ element-copy-out-sum-2 : tie.Need-element-copy-out-sum-2 Inv-back μ-back Inv-se
 element-copy-out-sum-2 c = search needs
 
 sub-sum : tie.Need-sub-sum Inv-back μ-back Inv-sets μ-sets
-sub-sum c = out-most (c .before .before .before .back .inv .2) (c .before .before .before .before .before .before .before .pre .few) (c .before .before .back-test .left) (last c)
+sub-sum c =
+    let d = leaving c in
+    out-most (d .before .back .inv .2) (few-back (d .before)) (d .back-test .left) (last c)
 
 add-at-2 : tie.Need-add-at-2 Inv-back μ-back Inv-sets μ-sets
 add-at-2 c = search needs
 
 sets-less-2 : tie.Need-sets-less-2 Inv-back μ-back Inv-sets μ-sets
-sets-less-2 c = out-less (c .before .before .before .back .inv .2) (c .before .before .before .before .before .before .before .pre .few) (c .before .before .back-test .left) (last c) (c .before .before .before .before .before .before .sets .at) (c .before .before .before .before .before .before .sets .set) (c .before .before .before .back .inv .0)
+sets-less-2 c =
+    let d = leaving c in
+    let s = ended (d .before .before) .sets in
+    out-less (d .before .back .inv .2) (few-back (d .before)) (d .back-test .left) (last c) (s .at) (s .set) (d .before .back .inv .0)
 
 sets-again-2 : tie.Need-sets-again-2 Inv-back μ-back Inv-sets μ-sets
-sets-again-2 c = (omega (arith, out-fewer (c .before .before .before .back .inv .2) (c .before .before .before .before .before .before .before .pre .few) (c .before .before .back-test .left) (last c), c .before .before .before .back .inv .1), out (c .before .before .before .back .inv .2) (c .before .before .before .before .before .before .before .pre .few) (c .before .before .back-test .left) (last c) refl)
+sets-again-2 c =
+    let d = leaving c in
+    let i = d .before .back .inv in
+    (omega (arith, out-fewer (i .2) (few-back (d .before)) (d .back-test .left) (last c), i .1), out (i .2) (few-back (d .before)) (d .back-test .left) (last c) refl)
 
 back-less : tie.Need-back-less Inv-back μ-back Inv-sets μ-sets
 back-less c = search needs
 
 back-again : tie.Need-back-again Inv-back μ-back Inv-sets μ-sets
-back-again c = (c .before .before .back .inv .0, c .before .before .back .inv .1, back (c .before .before .back .inv .2) (c .before .before .before .before .before .before .pre .few) (c .before .back-test .left) (test-out (c .before .before .back .set) (c .before .before .back .at - 1) (omega (arith, c .before .before .before .before .before .before .pre .few, c .before .before .back .inv .2 .place .low)) (c .if5 .left)))
+back-again c =
+    let d = c .before in
+    let b = d .before .back in
+    let most = few-back (d .before) in
+    (b .inv .0, b .inv .1, back (b .inv .2) most (d .back-test .left) (test-out (b .set) (b .at - 1) (omega (arith, most, b .inv .2 .place .low)) (c .if5 .left)))
 
 returns : tie.Need-returns Inv-back μ-back Inv-sets μ-sets
 returns c = finish (c .before .back .inv .2) (c .back-test .taken)

@@ -47,7 +47,7 @@ returns-2 c =
       some = λ z. c .before .before .before .before .before .if1 .left (c .before .before .before .before .before .before .value-in .ensures ∙ z);
       other = c .before .before .before .before .loop .j;
       later = c .before .before .before .before .loop .inv .0;
-      member = test-in _ _ (omega (arith, c .before .before .before .before .before .before .before .pre .1)) (c .before .before .if2 .taken);
+      member = test-in _ _ (omega (arith, c .before .before .before .before .before .before .before .pre .1 .few)) (c .before .before .if2 .taken);
       same = sym (c .before .before .before .before .before .before .value-in .ensures) ∙ sym (eqb-true _ _ (c .if3 .taken)) ∙ c .before .value-in2 .ensures;
     }
 
@@ -60,18 +60,18 @@ loop-less c = search needs
 loop-again : tie.Need-loop-again Inv-loop μ-loop
 loop-again c = (
   omega arith,
-  omega (arith, c .before .before .before .before .before .pre .1),
+  omega (arith, c .before .before .before .before .before .pre .1 .few),
   below-more _ _ (c .before .before .loop .inv .2)
       (⊎-elim
       (λ w k p e. eqb-false _ _ (w .2 .left) (w .1 .ensures ∙ e))
-      (λ w k p e. test-not _ _ (omega (arith, c .before .before .before .before .before .pre .1)) (w .left) p)
+      (λ w k p e. test-not _ _ (omega (arith, c .before .before .before .before .before .pre .1 .few)) (w .left) p)
       (c .if2 .came)),
 )
 
 returns-3 : tie.Need-returns-3 Inv-loop μ-loop
 returns-3 c =
     λ d.
-    let l = c .before .before .before .before .pre .2 (d .other) (d .member) in
+    let l = c .before .before .before .before .pre .1 .below (d .other) (d .member) in
     c .before .loop .inv .2 (d .other) (omega arith) (d .later) (d .member) (sym (d .same) ∙ sym (c .before .before .before .value-in .ensures))
 
 pub shares-later-spec : {M : Type 1} → statement M

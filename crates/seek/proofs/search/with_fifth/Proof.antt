@@ -20,7 +20,7 @@ abbrev μ-loop : tie.MeasureT-loop
 μ-loop test scores held set sum at best₀ i₀ best i = held - i
 
 loop-holds : tie.Need-loop-holds Inv-loop μ-loop
-loop-holds c = c .pre .2
+loop-holds c = c .pre .stands
 
 cast-if1 : tie.Need-cast-if1 Inv-loop μ-loop
 cast-if1 c = search needs
@@ -41,10 +41,18 @@ element-copy-out-better : tie.Need-element-copy-out-better Inv-loop μ-loop
 element-copy-out-better c = search needs
 
 add-better : tie.Need-add-better Inv-loop μ-loop
-add-better c = omega (arith, sum-fits (c .before .before .before .before .before .pre .0) (c .before .before .before .before .loop .inv) (c .before .before .before .before .loop .i))
+add-better c =
+    let d = c .before .before .before .before in
+    omega (arith, sum-fits (d .before .pre .sought) (d .loop .inv) (d .loop .i))
 
 better-requires : tie.Need-better-requires Inv-loop μ-loop
-better-requires c κs = (c .before .before .before .before .before .pre .0 .few, c .before .before .before .before .before .pre .0 .among, still-kept (fives (c .before .before .before .before .before .args .test) (c .before .before .before .before .before .pre .0)) (c .before .before .before .before .loop .inv) (c .before .before .before .loop-test .taken) (test-in (c .before .before .before .before .before .args .test .kept) (c .before .before .before .before .loop .i) (omega (arith, c .before .before .before .before .before .pre .0 .few)) (c .before .if1 .taken)) refl)
+better-requires c κs =
+    let d = c .before .before .before in
+    let turn = d .before in
+    let g = turn .before .pre .sought in
+    let kept = turn .before .args .test .kept in
+    let b = test-in kept (turn .loop .i) (omega (arith, g .few)) (c .before .if1 .taken) in
+    record { few = g .few; among = g .among; kept = still-kept (fives (turn .before .args .test) g) (turn .loop .inv) (d .loop-test .taken) b refl }
 
 add-i : tie.Need-add-i Inv-loop μ-loop
 add-i c = search needs
@@ -54,21 +62,23 @@ loop-less c = search needs
 
 loop-again : tie.Need-loop-again Inv-loop μ-loop
 loop-again c =
-    let g = c .before .before .before .before .pre in
-    let w = fives (c .before .before .before .before .args .test) (g .0) in
-    let s = c .before .before .before .loop .inv in
+    let d = c .before .before .before in
+    let g = d .before .pre in
+    let test = d .before .args .test in
+    let w = fives test (g .sought) in
+    let s = d .loop .inv in
     let h = c .before .before .loop-test .taken in
-    let few = g .0 .few in
+    let few = g .sought .few in
     ⊎-elim
-    (λ v. rw (v .3) (fifth w s h (test-in (c .before .before .before .before .args .test .kept) (c .before .before .before .loop .i) (omega arith) (v .0 .taken)) refl refl (g .1) (v .2 .ensures)))
-    (λ v. rw (v .1) (skips w s h (test-out (c .before .before .before .before .args .test .kept) (c .before .before .before .loop .i) (omega arith) (v .0 .left))))
+    (λ v. rw (v .3) (fifth w s h (test-in (test .kept) (d .loop .i) (omega arith) (v .0 .taken)) refl refl (g .count) (v .2 .ensures)))
+    (λ v. rw (v .1) (skips w s h (test-out (test .kept) (d .loop .i) (omega arith) (v .0 .left))))
     (c .if1 .came)
 
 returns : tie.Need-returns Inv-loop μ-loop
 returns c =
     let g = c .before .before .pre in
     let s = c .before .loop .inv in
-    short (fives (c .before .before .args .test) (g .0)) s (omega (arith, g .1, s .place .low))
+    short (fives (c .before .before .args .test) (g .sought)) s (omega (arith, g .count, s .place .low))
 
 pub with-fifth-spec : {M : Type 1} → statement M
 with-fifth-spec =

@@ -20,7 +20,7 @@ abbrev μ-loop : tie.MeasureT-loop
 μ-loop test scores held set sum at best₀ i₀ best i = held - i
 
 loop-holds : tie.Need-loop-holds Inv-loop μ-loop
-loop-holds c = c .pre .2
+loop-holds c = c .pre .stands
 
 add-loop : tie.Need-add-loop Inv-loop μ-loop
 add-loop c = search needs
@@ -44,19 +44,23 @@ element-copy-out-with-fifth : tie.Need-element-copy-out-with-fifth Inv-loop μ-l
 element-copy-out-with-fifth c = search needs
 
 add-with-fifth : tie.Need-add-with-fifth Inv-loop μ-loop
-add-with-fifth c = omega (arith, sum-fits (c .before .before .before .before .before .pre .0) (c .before .before .before .before .loop .inv) (c .before .before .before .before .loop .i))
+add-with-fifth c =
+    let d = c .before .before .before .before in
+    omega (arith, sum-fits (d .before .pre .sought) (d .loop .inv) (d .loop .i))
 
 add-with-fifth-2 : tie.Need-add-with-fifth-2 Inv-loop μ-loop
 add-with-fifth-2 c = search needs
 
 with-fifth-requires : tie.Need-with-fifth-requires Inv-loop μ-loop
 with-fifth-requires c κs =
-    let g = c .before .before .before .before .before .pre in
-    let few = g .0 .few in
-    let w = fives (c .before .before .before .before .before .args .test) (g .0) in
-    let s = c .before .before .before .before .loop .inv in
-    let b = test-in (c .before .before .before .before .before .args .test .kept) (c .before .before .before .before .loop .i) (omega arith) (c .before .if1 .taken) in
-    (g .0, omega (arith, more w s (omega arith) b refl, g .1), joins w s (omega arith) b refl refl)
+    let turn = c .before .before .before .before in
+    let g = turn .before .pre in
+    let few = g .sought .few in
+    let test = turn .before .args .test in
+    let w = fives test (g .sought) in
+    let s = turn .loop .inv in
+    let b = test-in (test .kept) (turn .loop .i) (omega arith) (c .before .if1 .taken) in
+    record { sought = g .sought; count = omega (arith, more w s (omega arith) b refl, g .count); stands = joins w s (omega arith) b refl refl }
 
 add-i : tie.Need-add-i Inv-loop μ-loop
 add-i c = search needs
@@ -66,20 +70,22 @@ loop-less c = search needs
 
 loop-again : tie.Need-loop-again Inv-loop μ-loop
 loop-again c =
-    let g = c .before .before .before .before .pre in
-    let few = g .0 .few in
-    let w = fives (c .before .before .before .before .args .test) (g .0) in
-    let s = c .before .before .before .loop .inv in
+    let d = c .before .before .before in
+    let g = d .before .pre in
+    let test = d .before .args .test in
+    let few = g .sought .few in
+    let w = fives test (g .sought) in
+    let s = d .loop .inv in
     ⊎-elim
-    (λ v. rw (v .3) (after w s (omega arith) (test-in (c .before .before .before .before .args .test .kept) (c .before .before .before .loop .i) (omega arith) (v .0 .taken)) refl (v .2 .ensures)))
-    (λ v. rw (v .1) (skips w s (omega arith) (test-out (c .before .before .before .before .args .test .kept) (c .before .before .before .loop .i) (omega arith) (v .0 .left))))
+    (λ v. rw (v .3) (after w s (omega arith) (test-in (test .kept) (d .loop .i) (omega arith) (v .0 .taken)) refl (v .2 .ensures)))
+    (λ v. rw (v .1) (skips w s (omega arith) (test-out (test .kept) (d .loop .i) (omega arith) (v .0 .left))))
     (c .if1 .came)
 
 returns : tie.Need-returns Inv-loop μ-loop
 returns c =
     let g = c .before .before .pre in
     let s = c .before .loop .inv in
-    short (fives (c .before .before .args .test) (g .0)) s (omega (arith, g .1, s .place .low))
+    short (fives (c .before .before .args .test) (g .sought)) s (omega (arith, g .count, s .place .low))
 
 pub with-fourth-spec : {M : Type 1} → statement M
 with-fourth-spec =

@@ -1,18 +1,23 @@
 use native.Mathlib.Omega.{arith}
 use mathlib.Core.Path.{sym, ap}
+use Rattle.paper.specs.Rulings.{valuesOr}
 use Rattle.bands.specs.Promise.{said}
 use Rattle.bands.specs.declared.Answer.{Answer}
-use Rattle.shtegomir.specs.Placing.{remainderOf, form}
+use Rattle.shtegomir.specs.Placing.{form}
 use borrow.Author.Needs.{needs}
 use Rattle.shtegomir.proofs.placing.flatten.Statement.{statement}
 use Rattle.shtegomir.proofs.placing.flatten.Tie as tie
+use Rattle.shtegomir.proofs.telling.nothing_wrong.Reads as nothing-wrong-reads
 use Rattle.shtegomir.proofs.telling.tell.Reads as tell-reads
 
 enum-known-answer : tie.Need-enum-known-answer
 enum-known-answer c = search needs
 
-cast-t6 : tie.Need-cast-t6
-cast-t6 c = omega (arith, c .before .before .before .pre, ap (λ (a : Answer). remainderOf (said a)) (c .before .answer .given .1))
+nothing-wrong-requires : tie.Need-nothing-wrong-requires
+nothing-wrong-requires c κs = search needs
+
+cast-t7 : tie.Need-cast-t7
+cast-t7 c = omega (arith, c .before .before .before .before .pre, ap (λ (a : Answer). valuesOr 0 (said a)) (c .before .before .answer .given .1))
 
 enum-known-answer-2 : tie.Need-enum-known-answer-2
 enum-known-answer-2 c = search needs
@@ -21,12 +26,19 @@ tell-requires : tie.Need-tell-requires
 tell-requires c κs = search needs
 
 returns : tie.Need-returns
-returns c = sym (ap form (c .before .answer .given .1))
+returns c = rw (c .nothing-wrong .ensures) (sym (ap form (c .before .before .answer .given .1)))
 
 returns-2 : tie.Need-returns-2
-returns-2 c = rw (c .tell .ensures .0, c .tell .ensures .1) (sym (ap form (c .before .before .answer2 .given .1)))
+returns-2 c = rw (c .tell .ensures) (sym (ap form (c .before .before .answer2 .given .1)))
 
 pub flatten-spec : {M : Type 1} → statement M
 flatten-spec =
     tie.close
-    (tie.spec enum-known-answer cast-t6 enum-known-answer-2 tell-requires returns returns-2)
+    (tie.spec
+    enum-known-answer
+    nothing-wrong-requires
+    cast-t7
+    enum-known-answer-2
+    tell-requires
+    returns
+    returns-2)

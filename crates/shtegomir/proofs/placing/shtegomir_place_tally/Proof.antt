@@ -15,7 +15,7 @@ flatten-requires c κs =
     let d = c .before .before .before .before in
     let given = d .before .before .before .before .before .before .before .args in
     let place = d .place-by-tally in
-    omega (arith, tally-few (given .aggregates .now) (given .table .now) (given .population) (lent (given .counts .now) (given .bands .now)) (place .ensures))
+    omega (arith, tally-few (given .aggregates .now) (given .table .now) (given .population) (lent (given .bands .now) (given .counts .now)) (place .ensures))
 
 same-length : tie.Need-same-length
 same-length c = search needs

@@ -1,4 +1,3 @@
--- No band above k fits, and the sum is of the entries from k on.
 use Prim.Native.Nat.{_*_}
 use native.Mathlib.Omega.{arith}
 use mathlib.Core.Path.{sym, _∙_}
@@ -11,6 +10,7 @@ use Rattle.tally.proofs.search.highest.Tie as tie
 use Rattle.tally.proofs.search.fits.Reads as fits-reads
 use Rattle.tally.proofs.search.places_of.Reads as places-of-reads
 
+-- no band above k fits, and the sum is of the entries from k on
 abbrev Inv-loop : tie.InvT-loop
 Inv-loop table population c k₀ sum₀ k sum = SearchAt table population c k sum (population * sum)
 

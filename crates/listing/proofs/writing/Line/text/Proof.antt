@@ -1,4 +1,3 @@
--- The text before i is added.
 use mathlib.Core.Path.{_≡_}
 use mathlib.Core.List.{append-nil}
 use native.Mathlib.Omega.{arith}
@@ -12,6 +11,7 @@ use borrow.Author.Needs.{needs}
 use Rattle.listing.proofs.writing.Line.text.Statement.{statement}
 use Rattle.listing.proofs.writing.Line.text.Tie as tie
 
+-- the text before i is added
 abbrev Inv-loop : tie.InvT-loop
 Inv-loop text line₀ i₀ line i = (i ≤ length text) × Adds line₀ line (take i text)
 

@@ -1,4 +1,4 @@
--- A student's band, computed: the highest that C fits, or 0.
+-- The bands of students, computed: each stands in the highest that C fits, or in 0.
 use Prim.Native.Nat.{ℕ}
 use mathlib.Core.List.{List}
 use lib.ListN.{length, getD}
