@@ -66,7 +66,7 @@ module _ (s : Student) (table : List ℕ) where
           (tabled-turns (held s) (resultRules s table) (λ i. (λ e. refl, (λ e. refl, (λ e. refl, tt)))))
           (λ e. refl, tt)
 
-  computed-tabled : Refusing (computed s table)
+  pub computed-tabled : Refusing (computed s table)
   computed-tabled = go (ruling s table) (tabled (studentRules s table ++ (not (showsEnglish s) ⇒ 7 at 0 ∷ [])) tt rules-tabled)
     where
       choice : (c : Choice) → Refusing (told s table c)

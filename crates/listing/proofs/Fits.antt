@@ -9,8 +9,7 @@ use Rattle.paper.specs.Limits.{bandStep}
 use Rattle.paper.specs.Units.{hundredths, thousandths}
 use Rattle.listing.specs.Text.{digits, decimals2, decimals3, lowBand, atar}
 use Rattle.listing.specs.Lines.{cohortLine, studentLine, refusedLine, fileLine, lineBytes}
-use Rattle.listing.specs.Inner.{Adds, endingBytes}
-use Rattle.listing.specs.declared.writing.Line.{Line}
+use Rattle.listing.specs.Inner.{endingBytes}
 use Rattle.listing.proofs.Digits.{few-digits}
 
 module _ (n : ℕ) (h : n < 4294967296) where
@@ -40,10 +39,6 @@ student-fits i t r p k a b c d e = simp length-append (omega (arith, digits-32 i
 
 pub file-fits : (number place : ℕ) → number < 256 → place < 18446744073709551616 → length (fileLine number place) ≤ endingBytes
 file-fits n p a b = simp length-append (omega (arith, few-digits n 2 (omega arith), few-digits p 19 (omega arith)))
-
--- the same number and place, and they fit
-pub told : {a b : Line} {n p number place : ℕ} → n ≡ number → p ≡ place → n < 256 → p < 18446744073709551616 → Adds a b (fileLine n p) → Adds a b (fileLine number place) × (length (fileLine number place) ≤ endingBytes)
-told {n = n} {p = p} e f h l d = rw (← e, ← f) (d, file-fits n p h l)
 
 pub refused-fits : (id number place : ℕ) → id < 4294967296 → length (fileLine number place) ≤ endingBytes → length (refusedLine id number place) ≤ lineBytes
 refused-fits i n p a b = simp length-append (omega (arith, digits-32 i a, simp length-append at b))

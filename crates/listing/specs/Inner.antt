@@ -3,10 +3,7 @@ use Prim.Native.Nat.{ℕ, zero, suc, min}
 use mathlib.Core.Path.{_≡_}
 use mathlib.Core.List.{List, [], _∷_, _++_}
 use lib.ListN.{length}
-use Rattle.paper.specs.Rulings.{numberOf, placeOf}
-use Rattle.paper.specs.Refusals.{fault}
-use Rattle.paper.specs.declared.refusal.Refusal.{Refusal}
-use Rattle.listing.specs.Lines.{fileLine, lineBytes}
+use Rattle.listing.specs.Lines.{lineBytes}
 use Rattle.listing.specs.declared.writing.Line.{Line}
 
 -- the first n bytes of a text, with zeros after it where it is shorter
@@ -23,10 +20,6 @@ lineOf text = record { bytes = padded lineBytes text; length = min lineBytes (le
 pub record Adds (before after : Line) (more : List ℕ) : Type 0 where
   pub added : (text : List ℕ) → before ≡ lineOf text → after ≡ lineOf (text ++ more)
 
--- how a line of a refusal ends
-abbrev pub ending : Refusal → List ℕ
-ending refusal = fileLine (numberOf (fault refusal)) (placeOf (fault refusal))
-
--- its bytes at most: refused, a number of up to 3 digits, a place of up to 20, two spaces and a line feed
+-- the bytes at most of how a line of a refusal ends: refused, a number of up to 3 digits, a place of up to 20, two spaces and a line feed
 abbrev pub endingBytes : ℕ
 endingBytes = 33

@@ -3,6 +3,7 @@ ghost use Rattle.paper.specs.Rulings.{numberOf, placeOf};
 ghost use Rattle.paper.specs.Refusals.{fault};
 ghost use Rattle.listing.specs.Lines.{Shows, cohortLine, studentLine, refusedLine, fileLine};
 use crate::writing::Line;
+use paper::refusal;
 use paper::refusal::Refusal;
 
 pub mod writing;
@@ -38,16 +39,19 @@ pub fn student_line(id: u32, aggregate: u32, rank: u32, percentile: u32, band: u
         .byte(b'\n')
 }
 
-// A refused student.
-pub fn refused_line(id: u32, refusal: Refusal) -> Line
-    ensures { λ r. ⌜ Shows r (refusedLine id (numberOf (fault refusal)) (placeOf (fault refusal))) ⌝ }
+// A refused student, by the number and the place of the refusal.
+pub fn refused_line(id: u32, number: u8, place: usize) -> Line
+    ensures { λ r. ⌜ Shows r (refusedLine id number place) ⌝ }
 {
-    Line::empty().number(id as u64).byte(b' ').refusal(refusal)
+    Line::empty()
+        .number(id as u64)
+        .byte(b' ')
+        .refusal(number, place)
 }
 
 // A refused file.
 pub fn file_line(refusal: Refusal) -> Line
     ensures { λ r. ⌜ Shows r (fileLine (numberOf (fault refusal)) (placeOf (fault refusal))) ⌝ }
 {
-    Line::empty().refusal(refusal)
+    Line::empty().refusal(refusal::number(refusal), refusal::place(refusal))
 }

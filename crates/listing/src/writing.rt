@@ -4,10 +4,9 @@ ghost use mathlib.Core.List.{[], _∷_};
 ghost use Prim.Native.Nat.{_≤_};
 ghost use lib.ListN.{length};
 ghost use Rattle.listing.specs.Text.{digit, digits, decimals2, decimals3, atar};
-ghost use Rattle.listing.specs.Inner.{lineOf, Adds, ending, endingBytes};
+ghost use Rattle.listing.specs.Lines.{fileLine};
+ghost use Rattle.listing.specs.Inner.{lineOf, Adds, endingBytes};
 use paper::limits::BAND_STEP;
-use paper::refusal;
-use paper::refusal::Refusal;
 use paper::units::HUNDREDTHS;
 use paper::units::THOUSANDTHS;
 
@@ -104,15 +103,13 @@ impl Line {
     }
 
     // How a line of a refusal ends.
-    pub(crate) fn refusal(self, refusal: Refusal) -> Line
-        ensures { λ r. ⌜ Adds self r (ending refusal) × (length (ending refusal) ≤ endingBytes) ⌝ }
+    pub(crate) fn refusal(self, number: u8, place: usize) -> Line
+        ensures { λ r. ⌜ Adds self r (fileLine number place) × (length (fileLine number place) ≤ endingBytes) ⌝ }
     {
-        let number = refusal::number(refusal) as u64;
-        let place = refusal::place(refusal) as u64;
         self.text(b"refused ")
-            .number(number)
+            .number(number as u64)
             .byte(b' ')
-            .number(place)
+            .number(place as u64)
             .byte(b'\n')
     }
 }

@@ -1,80 +1,48 @@
--- The inner calls of curve, ranks and bands never refuse.
+-- The inner calls of ranks and bands never refuse, and the table is drawn.
 use Prim.Native.Nat.{ℕ, _≤_, _<_}
 use native.Mathlib.Omega.{arith}
-use mathlib.Core.Path.{_≡_, refl, sym, subst, _∙_}
-use mathlib.Core.Bool.{false}
-use mathlib.Core.List.{List}
+use mathlib.Core.Path.{_≡_, refl, sym, ap, subst, _∙_}
+use mathlib.Core.Bool.{Bool, false}
+use mathlib.Core.List.{List, _++_}
 use lib.ListN.{length, getD}
+use lib.Seq.{take-at}
 use borrow.Author.Tests.{le-ltb, eq-eqb, ne-eqb}
-use Rattle.paper.specs.Limits.{mostAggregate, bandCount, mostStudents, mostValues, mostPopulation, mostEntry}
-use Rattle.paper.specs.Lists.{over, someOver}
+use Rattle.paper.specs.Limits.{mostAggregate, bandCount, mostStudents, mostValues, mostPopulation, mostEntry, leastRate, mostRate}
+use Rattle.paper.specs.Lists.{over, someOver, pick}
 use Rattle.paper.specs.Rulings.{accepted}
 use Rattle.paper.proofs.Firsts.{none-has}
 use Rattle.paper.proofs.Ranging.{true-within}
 use Rattle.paper.proofs.Promised.{rules-is, only-as, left-as}
 use Rattle.paper.specs.declared.refusal.Refusal.{Refusal}
-use Rattle.curve.specs.Population.{Y, rate}
-use Rattle.curve.specs.Promise.{values, ruling as curveRuling, Promise as CurvePromise}
-use Rattle.curve.specs.Meaning.{Counted, Curved}
-use Rattle.curve.specs.declared.Answer.{Answer as CurveAnswer}
-use Rattle.curve.proofs.Promised.{table-ruled}
-use Rattle.curve.proofs.Means.{counted, curved}
-use Rattle.ranks.specs.Promise.{ruling as ranksRuling, Promise as RanksPromise, lent}
+use Rattle.curve.specs.Curve.{tableOf, drawn}
+use Rattle.curve.specs.Meaning.{Curved}
+use Rattle.curve.proofs.Means.{curved}
+use Rattle.ranks.specs.Promise.{Lent, lent, ranked, ruling as ranksRuling, Promise as RanksPromise}
 use Rattle.ranks.specs.declared.Answer.{Answer as RanksAnswer}
-use Rattle.ranks.proofs.Promised.{ranked-is}
+use Rattle.ranks.proofs.Promised.{ranked-is, computed as ranks-computed}
 use Rattle.bands.specs.Placing.{remainder}
+use Rattle.bands.specs.Bands.{bandsOf}
 use Rattle.bands.specs.Promise.{ruling as bandsRuling, Promise as BandsPromise}
 use Rattle.bands.specs.declared.Answer.{Answer as BandsAnswer}
 use Rattle.bands.specs.declared.Answer.the-variants.{Accepted as Placed, Refused as Turned}
+use Rattle.bands.proofs.Placed.{best-exists}
 use Rattle.bands.proofs.Promised.{tells as bands-tells, owes as bands-owes}
-use Rattle.report.specs.Report.{Columns, participation, columnsOf}
-use Rattle.report.specs.Inner.{Populated, Placeable, columns}
+use Rattle.report.specs.Inner.{Populated, Placeable, Places}
 
 -- a list with no number over a limit
 within-over : (limit : ℕ) (xs : List ℕ) → ((i : ℕ) → i < length xs → getD xs i 0 ≤ limit) → someOver limit xs ≡ false
 within-over limit xs h = none-has (length xs) (over limit xs) (λ i l. le-ltb _ _ (h i l))
 
-module _ (figures : List ℕ) (population : ℕ) (p : Populated figures population) where
-  pub curve-accepts : (lent : List ℕ) → length lent ≡ bandCount → curveRuling figures lent ≡ accepted (values figures)
-  curve-accepts lent l = table-ruled figures lent l ∙ p .kept
+module _ (rate population : ℕ) (p : Populated rate population) where
+  -- the table of a rate that is accepted
+  pub table-drawn : (before : List ℕ) → drawn rate before ≡ tableOf rate
+  table-drawn before = ap (λ (b : Bool). pick b (tableOf rate) before) (true-within leastRate mostRate rate (p .least-rate) (p .most-rate))
 
-  people : Counted figures (Y figures) (rate figures)
-  people = counted figures (Y figures) (rate figures) (record { says = sym (p .kept); leaves = tt })
+  shape : Curved rate (tableOf rate)
+  shape = curved rate (tableOf rate) (p .least-rate) (p .most-rate) refl
 
-  table : Curved (rate figures) (participation figures)
-  table = curved (rate figures) (participation figures) (people .least-rate) (people .most-rate) refl
-
-module _ (figures : List ℕ) (population : ℕ) (c : Columns) (p : Placeable figures population c) where
-  pub ranks-accept : ranksRuling (c .aggregates) (lent (c .ranks) (c .percentiles)) ≡ accepted tt
-  ranks-accept =
-      let few : length (c .aggregates) ≤ mostValues = omega (arith, p .few) in
-      rw (le-ltb mostValues (length (c .aggregates)) few, eq-eqb (length (c .ranks)) (length (c .aggregates)) (p .even .ranks), eq-eqb (length (c .percentiles)) (length (c .aggregates)) (p .even .percentiles)) refl
-
-  pub bands-accept : bandsRuling (c .aggregates) (participation figures) (Y figures) (c .bands) ≡ accepted (remainder (c .aggregates) (participation figures) (Y figures))
-  bands-accept =
-      let w = table figures population (p .populated) in
-      let y = people figures population (p .populated) in
-      rw (
-        le-ltb mostStudents (length (c .aggregates)) (p .few),
-        eq-eqb (length (participation figures)) bandCount (w .long),
-        eq-eqb (length (c .bands)) (length (c .aggregates)) (p .even .bands),
-        true-within 1 mostPopulation (Y figures) (y .some) (y .most),
-        within-over mostEntry (participation figures) (λ i l. w .most i (omega (arith, w .long))),
-        within-over mostAggregate (c .aggregates) (λ i l. p .each i),
-      ) refl
-
-  -- so what they leave is what is listed
-  pub all-placed : {zeros table ranks percentiles bands : List ℕ} {r : CurveAnswer} {s : RanksAnswer} {t : BandsAnswer} → length zeros ≡ bandCount
-      → CurvePromise figures zeros r table → RanksPromise (c .aggregates) (lent (c .ranks) (c .percentiles)) s (lent ranks percentiles)
-      → BandsPromise (c .aggregates) table population (c .bands) t bands
-      → (columns (c .aggregates) ranks percentiles bands ≡ columnsOf figures (c .aggregates)) × (t ≡ Placed (remainder (c .aggregates) (participation figures) (Y figures)))
-  all-placed {zeros = zeros} {table = table} {ranks = ranks} {percentiles = percentiles} {bands = bands} {t = t} l h g k =
-      let e : table ≡ participation figures = left-as (curve-accepts figures population (p .populated) zeros l) h in
-      let b = ranked-is (c .aggregates) (lent ranks percentiles) (left-as ranks-accept g) in
-      let m : BandsPromise (c .aggregates) (participation figures) (Y figures) (c .bands) t bands =
-      subst (λ (x : List ℕ). BandsPromise (c .aggregates) x (Y figures) (c .bands) t bands) e (subst (λ (y : ℕ). BandsPromise (c .aggregates) table y (c .bands) t bands) (p .populated .people) k) in
-      let d = only-as bands-tells rules-is (bands-owes (c .aggregates) (participation figures) (Y figures) (c .bands)) bands-accept m in
-      (λ i. columns (c .aggregates) (b i .ranks) (b i .percentiles) (d .1 i), d .0)
+  pub table-long : (before : List ℕ) → length (drawn rate before) ≡ bandCount
+  table-long before = ap length (table-drawn before) ∙ shape .long
 
 -- the remainder of an answer, 0 of a refusal
 abbrev pub remainderIn : BandsAnswer → ℕ
@@ -83,3 +51,52 @@ remainderIn (Turned x) = 0
 
 pub placed-once : (n : ℕ) (x : Refusal) → Placed n ≡ Turned x → ⊥
 placed-once n x e = absurd (let z : _≡_ {A = ℕ} 0 1 = cc in omega arith)
+
+module _ (rate population : ℕ) (aggregates : List ℕ) (p : Placeable rate population aggregates) where
+  pub ranks-accept : (ranks percentiles : List ℕ) → length ranks ≡ length aggregates → length percentiles ≡ length aggregates → ranksRuling aggregates (lent ranks percentiles) ≡ accepted tt
+  ranks-accept ranks percentiles a b =
+      let few : length aggregates ≤ mostValues = omega (arith, p .few) in
+      rw (le-ltb mostValues (length aggregates) few, eq-eqb (length ranks) (length aggregates) a, eq-eqb (length percentiles) (length aggregates) b) refl
+
+  pub bands-accept : (bands : List ℕ) → length bands ≡ length aggregates → bandsRuling aggregates (tableOf rate) population bands ≡ accepted (remainder aggregates (tableOf rate) population)
+  bands-accept bands b =
+      let w = shape rate population (p .populated) in
+      rw (
+        le-ltb mostStudents (length aggregates) (p .few),
+        eq-eqb (length (tableOf rate)) bandCount (w .long),
+        eq-eqb (length bands) (length aggregates) b,
+        true-within 1 mostPopulation population (p .populated .some) (p .populated .most),
+        within-over mostEntry (tableOf rate) (λ i l. w .most i (omega (arith, w .long))),
+        within-over mostAggregate aggregates (λ i l. p .each i),
+      ) refl
+
+  -- so what they leave is what is listed
+  pub all-ranked : (before after : Lent) {r : RanksAnswer} → length (before .ranks) ≡ length aggregates → length (before .percentiles) ≡ length aggregates
+      → RanksPromise aggregates before r after → after ≡ ranked aggregates
+  all-ranked before after a b g = ranked-is aggregates after (left-as (ranks-accept (before .ranks) (before .percentiles) a b) g)
+
+  pub all-placed : (before drawing table after : List ℕ) {r : BandsAnswer} → length before ≡ length aggregates → table ≡ drawn rate drawing
+      → BandsPromise aggregates table population before r after
+      → (r ≡ Placed (remainder aggregates (tableOf rate) population)) × (after ≡ bandsOf aggregates (tableOf rate) population)
+  all-placed before drawing table after {r} b h k =
+      let m : BandsPromise aggregates (tableOf rate) population before r after =
+      subst (λ (x : List ℕ). BandsPromise aggregates x population before r after) (h ∙ table-drawn rate population (p .populated) drawing) k in
+      only-as bands-tells rules-is (bands-owes aggregates (tableOf rate) population before) (bands-accept before b) m
+
+  -- and at the front of a buffer each
+  pub front : (before after : Lent) (bands drawing table placed : List ℕ) {r : RanksAnswer} (s : BandsAnswer) (x y z : List ℕ) → length (before .ranks) ≡ length aggregates → length (before .percentiles) ≡ length aggregates
+      → length bands ≡ length aggregates → table ≡ drawn rate drawing → RanksPromise aggregates before r after → BandsPromise aggregates table population bands s placed
+      → Places (tableOf rate) population aggregates (record { ranks = after .ranks ++ x; percentiles = after .percentiles ++ y; bands = placed ++ z; remainder = remainderIn s })
+  front before after bands drawing table placed s x y z a b d h g k =
+      let e = all-ranked before after a b g in
+      let f = all-placed bands drawing table placed d h k in
+      let long = ranks-computed aggregates in
+      let best = best-exists aggregates (tableOf rate) population in
+      let ranks-is = ap (λ (l : Lent). l .ranks) e in
+      let percentiles-is = ap (λ (l : Lent). l .percentiles) e in
+      record {
+        ranks-are = take-at (after .ranks) x (length aggregates) (ap length ranks-is ∙ long .ranks-long) ∙ ranks-is;
+        percentiles-are = take-at (after .percentiles) y (length aggregates) (ap length percentiles-is ∙ long .percentiles-long) ∙ percentiles-is;
+        bands-are = take-at placed z (length aggregates) (ap length (f .1) ∙ best .keeps .long) ∙ f .1;
+        left = ap remainderIn (f .0);
+      }

@@ -1,9 +1,9 @@
 -- An aggregate is at most five times the greatest score.
 use Prim.Native.Nat.{ℕ, zero, suc, _*_, _≤_}
 use native.Mathlib.Omega.{arith}
-use mathlib.Core.Path.{_≡_, refl, sym, subst, _∙_}
+use mathlib.Core.Path.{_≡_, refl, sym, subst}
 use mathlib.Core.List.{List, [], _∷_}
-use lib.ListN.{length, getD, take, replicate, length-replicate}
+use lib.ListN.{length, getD, take}
 use lib.Seq.{length-take-le}
 use Rattle.paper.specs.Limits.{topScore, mostAggregate, mostStudents}
 use Rattle.paper.specs.Rulings.{Outcome, accepted, refused}
@@ -15,7 +15,7 @@ use Rattle.bestset.specs.Computed.{computed}
 use Rattle.results.proofs.Scores.{score-most}
 use Rattle.cohort.specs.Held.{Enrolled}
 use Rattle.report.specs.Report.{outcome, withAggregate, aggregatesOf}
-use Rattle.report.specs.Inner.{studentsIn, Collected, Populated, Placeable, columns}
+use Rattle.report.specs.Inner.{studentsIn, Collected, Populated, Placeable}
 use Rattle.report.proofs.Best.{chosen}
 
 sum-most : (f : ℕ → ℕ) (l : List ℕ) → ((i : ℕ) → f i ≤ topScore) → sumOver f l ≤ topScore * length l
@@ -38,17 +38,13 @@ aggregates-most catalogue table year (s ∷ ss) i = go (computed (student catalo
     go (accepted v) e h zero = most (student catalogue year (s .results)) table v (chosen (student catalogue year (s .results)) table v e)
     go (accepted v) e h (suc i) = h i
 
--- so aggregates that are collected are ranked and placed, with a buffer of zeros for each column
-pub collected-placeable : (catalogue table : List ℕ) (year n : ℕ) (ids counts results figures : List ℕ) (population : ℕ) (buffer marks : List ℕ) (m : ℕ) → n ≤ mostStudents
-    → Populated figures population → Collected (outcome catalogue table year) n counts results buffer marks m
-    → Placeable figures population (columns (take m buffer) (take m (replicate mostStudents 0)) (take m (replicate mostStudents 0)) (take m (replicate mostStudents 0)))
-collected-placeable catalogue table year n ids counts results figures population buffer marks m h p w =
+-- so aggregates that are collected can be ranked and placed
+pub collected-placeable : (catalogue table : List ℕ) (year rate population : ℕ) (counts results buffer numbers places : List ℕ) (m : ℕ) → length counts ≤ mostStudents
+    → Populated rate population → Collected (outcome catalogue table year) counts results buffer numbers places m → Placeable rate population (take m buffer)
+collected-placeable catalogue table year rate population counts results buffer numbers places m h p w =
     let long : length (take m buffer) ≡ m = length-take-le m buffer (omega (arith, w .long, w .within)) in
-    let zeros : length (replicate {A = ℕ} mostStudents 0) ≡ mostStudents = length-replicate {A = ℕ} mostStudents 0 in
-    let same : length (take m (replicate {A = ℕ} mostStudents 0)) ≡ length (take m buffer) = length-take-le m (replicate mostStudents 0) (omega (arith, w .within)) ∙ sym long in
     record {
       populated = p;
       few = omega (arith, w .within);
-      each = λ i. subst (λ (l : List ℕ). getD l i 0 ≤ mostAggregate) (sym (w .are ids .aggregates-are)) (aggregates-most catalogue table year (studentsIn n ids counts results) i);
-      even = record { ranks = same; percentiles = same; bands = same };
+      each = λ i. subst (λ (l : List ℕ). getD l i 0 ≤ mostAggregate) (sym (w .are [] .aggregates-are)) (aggregates-most catalogue table year (studentsIn (length counts) [] counts results) i);
     }

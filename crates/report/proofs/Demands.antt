@@ -5,12 +5,12 @@ use mathlib.Core.Path.{_≡_, refl, sym, ap, subst, _∙_}
 use mathlib.Core.List.{List, [], _∷_, _++_, append-assoc}
 use lib.ListN.{length, getD, length-append}
 use lib.Seq.{getD-append-seam}
-use Rattle.paper.specs.Limits.{bandCount}
 use Rattle.paper.specs.Rulings.{Outcome, accepted, refused, numberOf, placeOf}
 use Rattle.results.specs.Results.{student}
 use Rattle.bestset.specs.Promise.{Values, Ruled}
-use Rattle.curve.specs.Population.{Y}
-use Rattle.curve.specs.Promise.{values, ruling as curveRuling}
+use Rattle.curve.specs.Population.{Y, rate}
+use Rattle.curve.specs.Curve.{drawn}
+use Rattle.curve.proofs.Means.{counted}
 use Rattle.ranks.specs.Ranking.{rank, percentile, ranksOf, percentilesOf}
 use Rattle.ranks.specs.Promise.{lent, ruling as ranksRuling}
 use Rattle.ranks.proofs.Promised.{computed as ranks-computed}
@@ -24,10 +24,10 @@ use Rattle.cohort.specs.Held.{Enrolled, Held}
 use Rattle.cohort.specs.Reading.{reading}
 use Rattle.cohort.proofs.Holding.{sound}
 use Rattle.report.specs.Report.{outcome, outcomeOf, withAggregate, aggregatesOf, eligibleOf, participation, Columns, columnsOf, eligibleLine, lineOf, afterOne, linesOf, textOfOutcome, textOf}
-use Rattle.report.specs.Inner.{Even, Populated, Placeable, columns}
+use Rattle.report.specs.Inner.{Placeable}
 use Rattle.report.specs.Meaning.{In, Estimated}
 use Rattle.report.proofs.Whole.{whole-line, whole-join, all-whole}
-use Rattle.report.proofs.Accepting.{curve-accepts, ranks-accept, bands-accept}
+use Rattle.report.proofs.Accepting.{table-drawn, ranks-accept, bands-accept}
 use Rattle.report.proofs.Best.{chosen}
 use Rattle.bestset.proofs.Meeting.{computed-ruled}
 use Rattle.report.proofs.Bounded.{aggregates-most}
@@ -90,7 +90,7 @@ module _ (file : List ℕ) (held : Held) (reads : reading file ≡ accepted held
   out = outcomeOf held
 
   abbrev cols : Columns
-  cols = columnsOf (held .figures) (eligibleOf held)
+  cols = columnsOf (participation (held .figures)) (Y (held .figures)) (eligibleOf held)
 
   -- the line of each student stands in the text
   printed : (before : List Enrolled) (s : Enrolled) (rest : List Enrolled) → held .students ≡ before ++ (s ∷ rest)
@@ -157,24 +157,21 @@ module _ (file : List ℕ) (held : Held) (reads : reading file ≡ accepted held
       go (accepted v) h = omega arith
       go (refused f) h = omega arith
 
-  people : Populated (held .figures) (Y (held .figures))
-  people = record { kept = sound file held reads .population; people = refl }
-
-  placeable : (ranks percentiles bands : List ℕ) → Even (columns (eligibleOf held) ranks percentiles bands) → Placeable (held .figures) (Y (held .figures)) (columns (eligibleOf held) ranks percentiles bands)
-  placeable ranks percentiles bands even =
+  placeable : Placeable (rate (held .figures)) (Y (held .figures)) (eligibleOf held)
+  placeable =
+      let good = sound file held reads in
+      let people = counted (held .figures) (Y (held .figures)) (rate (held .figures)) (record { says = sym (good .population); leaves = tt }) in
       record {
-        populated = people;
-        few = omega (arith, eligible-within (held .students), sound file held reads .few-students);
+        populated = record { least-rate = people .least-rate; most-rate = people .most-rate; some = people .some; most = people .most };
+        few = omega (arith, eligible-within (held .students), good .few-students);
         each = aggregates-most (held .catalogue) (held .table) (held .year) (held .students);
-        even = even;
       }
 
-  -- the inner calls of curve, ranks and bands never refuse, with buffers of the lengths that they ask for
-  pub never-refused : (table ranks percentiles bands : List ℕ) → length table ≡ bandCount → Even (columns (eligibleOf held) ranks percentiles bands)
-      → (curveRuling (held .figures) table ≡ accepted (values (held .figures)))
+  -- the inner calls of ranks and bands never refuse, with buffers of the lengths that they ask for; and the table that is drawn for the rate is the population's
+  pub never-refused : (before ranks percentiles bands : List ℕ) → length ranks ≡ length (eligibleOf held) → length percentiles ≡ length (eligibleOf held) → length bands ≡ length (eligibleOf held)
+      → (drawn (rate (held .figures)) before ≡ participation (held .figures))
       × (ranksRuling (eligibleOf held) (lent ranks percentiles) ≡ accepted tt)
       × (bandsRuling (eligibleOf held) (participation (held .figures)) (Y (held .figures)) bands ≡ accepted (remainder (eligibleOf held) (participation (held .figures)) (Y (held .figures))))
-  never-refused table ranks percentiles bands l even =
-      let c = columns (eligibleOf held) ranks percentiles bands in
-      let p = placeable ranks percentiles bands even in
-      (curve-accepts (held .figures) (Y (held .figures)) people table l, ranks-accept (held .figures) (Y (held .figures)) c p, bands-accept (held .figures) (Y (held .figures)) c p)
+  never-refused before ranks percentiles bands a b c =
+      let p = placeable in
+      (table-drawn _ _ (p .populated) before, ranks-accept _ _ _ p ranks percentiles a b, bands-accept _ _ _ p bands c)

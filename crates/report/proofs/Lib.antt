@@ -6,6 +6,7 @@ pub mod Collecting
 pub mod Demands
 pub mod Filed
 pub mod Joined
+pub mod Keeping
 pub mod Lining
 pub mod Promised
 pub mod Puts

@@ -1,118 +1,92 @@
 -- What a student adds to the lines.
-use Prim.Native.Nat.{ℕ, _+_, _-_, _*_, _≤_, _<_}
+use Prim.Native.Nat.{ℕ, suc, _+_, _≤_, _<_}
 use native.Mathlib.Omega.{arith}
+use native.Mathlib.Numerals.{add-one}
 use mathlib.Core.Path.{_≡_, refl, sym, ap, _∙_}
+use mathlib.Core.Bool.{Bool, true, false}
 use mathlib.Core.List.{List, [], _∷_, _++_, append-assoc, append-nil}
-use lib.ListN.{length, getD, drop, length-drop}
-use lib.Seq.{drop-drop}
-use Rattle.paper.specs.Limits.{resultBytes}
-use Rattle.paper.specs.Rulings.{Outcome, accepted, refused}
-use Rattle.bestset.specs.Promise.{Values}
-use Rattle.cohort.specs.Held.{Enrolled}
-use Rattle.report.specs.Report.{outcome, withAggregate, aggregatesOf, Columns, eligibleLine, lineOf, afterOne, linesOf}
-use Rattle.report.specs.Inner.{studentsIn, outcomeAt, markOf, marksOf, Eligible, Within}
-use Rattle.report.proofs.Standing.{from, at, next, none}
-use Rattle.report.proofs.Collecting.{told-is, rest, aggregates-made, marks-made, after-mark, mark-most}
+use lib.ListN.{length, getD, drop, drop-of-length-le}
+use lib.Seq.{drop-cons, drop-drop}
+use lib.Dec.{eqb}
+use borrow.Author.Tests.{eq-eqb, ne-eqb}
+use Rattle.paper.specs.Lists.{pick}
+use Rattle.report.specs.Report.{Columns}
+use Rattle.report.specs.Inner.{lineKept, afterKept, linesKept, eligibleKept}
+use Rattle.report.proofs.Standing.{at}
 
--- of n students in buffers i are listed, j of them eligible
-module _ (catalogue table : List ℕ) (year n : ℕ) (ids counts results marks : List ℕ) (c : Columns) where
-  abbrev out : Enrolled → Outcome Values
-  out = outcome catalogue table year
+-- no fewer are eligible with more students, and with one more at most one more
+after-least : (j number : ℕ) → j ≤ afterKept j number
+after-least j number = go (eqb number 0)
+  where
+    go : (b : Bool) → j ≤ pick b (suc j) j
+    go true = omega arith
+    go false = omega arith
 
-  abbrev those : ℕ → ℕ → List Enrolled
-  those i place = from n ids counts results i place
+pub after-most : (j number : ℕ) → afterKept j number ≤ j + 1
+after-most j number = go (eqb number 0)
+  where
+    go : (b : Bool) → pick b (suc j) j ≤ j + 1
+    go true = omega arith
+    go false = omega arith
 
-  -- all lines are those so far and those of the rest; all eligible are those so far and those of the rest; the marks of the rest
-  pub record Far (i place j : ℕ) (sofar : List ℕ) : Type 0 where
-    pub lines : linesOf out c 0 (studentsIn n ids counts results) ≡ sofar ++ linesOf out c j (those i place)
-    pub eligible : j + length (aggregatesOf out (those i place)) ≡ length (c .aggregates)
-    pub marked : drop i marks ≡ marksOf out (those i place)
+-- an eligible student is one more, a refused one is none
+pub one-more : (j number k : ℕ) → number ≡ 0 → k ≡ j + 1 → k ≡ afterKept j number
+one-more j number k e h = h ∙ add-one j ∙ sym (ap (λ (b : Bool). pick b (suc j) j) (eq-eqb number 0 e))
 
-  pub far-none : Eligible out (studentsIn n ids counts results) (c .aggregates) marks → Far 0 0 0 []
-  far-none e =
-      let z : n ≡ n - 0 = omega arith in
-      let w = ap (λ (k : ℕ). studentsIn k ids counts results) z in
-      let a : length (c .aggregates) ≡ length (aggregatesOf out (those 0 0)) = ap length (e .aggregates-are ∙ ap (aggregatesOf out) w) in
-      record { lines = ap (linesOf out c 0) w; eligible = omega arith; marked = e .marks-are ∙ ap (marksOf out) w }
+pub none-more : (j number k : ℕ) → (number ≡ 0 → ⊥) → k ≡ j → k ≡ afterKept j number
+none-more j number k e h = h ∙ sym (ap (λ (b : Bool). pick b (suc j) j) (ne-eqb number 0 e))
+
+pub eligible-least : (j : ℕ) (numbers : List ℕ) → j ≤ eligibleKept j numbers
+unfolding eligibleKept
+eligible-least j [] = omega arith
+eligible-least j (number ∷ numbers) = omega (arith, after-least j number, eligible-least (afterKept j number) numbers)
+
+module _ (c : Columns) (ids numbers places : List ℕ) where
+  -- the lines and the eligible from the i-th student on
+  abbrev lines-from : ℕ → ℕ → List ℕ
+  lines-from i j = linesKept c j (drop i ids) (drop i numbers) (drop i places)
+
+  -- all lines are those so far and those of the rest, all eligible are those so far, j in number, and those of the rest
+  pub record Far (i j : ℕ) (sofar : List ℕ) : Type 0 where
+    lines : linesKept c 0 ids numbers places ≡ sofar ++ lines-from i j
+    eligible : eligibleKept 0 numbers ≡ eligibleKept j (drop i numbers)
+
+  pub far-none : Far 0 0 []
+  far-none = record { lines = refl; eligible = refl }
+
+  numbers-next : (i : ℕ) → i < length numbers → drop i numbers ≡ getD numbers i 0 ∷ drop (i + 1) numbers
+  numbers-next i l = drop-cons numbers i 0 l ∙ ap (λ (k : ℕ). getD numbers i 0 ∷ drop k numbers) (sym (add-one i))
+
+  lines-next : (i j : ℕ) → i < length numbers → lines-from i j ≡ lineKept c j (getD ids i 0) (getD numbers i 0) (getD places i 0) ++ lines-from (i + 1) (afterKept j (getD numbers i 0))
+  unfolding linesKept
+  lines-next i j l =
+      ap (λ (ns : List ℕ). linesKept c j (drop i ids) ns (drop i places)) (numbers-next i l)
+      ∙ rw (at i ids, at i places, drop-drop 1 i ids, drop-drop 1 i places) refl
+
+  eligible-next : (i j : ℕ) → i < length numbers → eligibleKept j (drop i numbers) ≡ eligibleKept (afterKept j (getD numbers i 0)) (drop (i + 1) numbers)
+  unfolding eligibleKept
+  eligible-next i j l = ap (eligibleKept j) (numbers-next i l)
 
 -- what follows of those listed so far
-module _ {catalogue table : List ℕ} {year n : ℕ} {ids counts results marks : List ℕ} {c : Columns} {i place j : ℕ} {sofar : List ℕ}
-    (f : Far catalogue table year n ids counts results marks c i place j sofar) where
-  abbrev outcomes : Enrolled → Outcome Values
-  outcomes = outcome catalogue table year
+module _ {c : Columns} {ids numbers places : List ℕ} {i j : ℕ} {sofar : List ℕ} (f : Far c ids numbers places i j sofar) where
+  pub far-all : length numbers ≤ i → linesKept c 0 ids numbers places ≡ sofar
+  unfolding linesKept
+  far-all h = f .lines ∙ ap (λ (ns : List ℕ). sofar ++ linesKept c j (drop i ids) ns (drop i places)) (drop-of-length-le numbers h) ∙ append-nil sofar
 
-  abbrev lines-by : ℕ → List Enrolled → List ℕ
-  lines-by = linesOf outcomes c
+  -- an eligible student is one of the eligible
+  pub far-within : i < length numbers → getD numbers i 0 ≡ 0 → j < eligibleKept 0 numbers
+  far-within l e =
+      let one : afterKept j (getD numbers i 0) ≡ suc j = ap (λ (b : Bool). pick b (suc j) j) (eq-eqb (getD numbers i 0) 0 e) in
+      omega (arith, f .eligible ∙ eligible-next c ids numbers places i j l, eligible-least (afterKept j (getD numbers i 0)) (drop (i + 1) numbers))
 
-  pub far-all : n ≤ i → lines-by 0 (studentsIn n ids counts results) ≡ sofar
-  unfolding linesOf
-  far-all h = f .lines ∙ ap (λ (l : List Enrolled). sofar ++ lines-by j l) (none n ids counts results i place h) ∙ append-nil sofar
-
-  -- the next student, and those after it
-  abbrev one : Outcome Values
-  one = outcomeAt catalogue table year results place (getD counts i 0)
-
-  abbrev others : List Enrolled
-  others = from n ids counts results (i + 1) (place + resultBytes * getD counts i 0)
-
-  abbrev aggregates : List ℕ
-  aggregates = aggregatesOf outcomes others
-
-  marks-next : i < n → drop i marks ≡ markOf one ∷ marksOf outcomes others
-  marks-next l = f .marked ∙ rest catalogue table year n counts results (marks-made outcomes) ids i place one l refl
-
-  pub far-mark : i < n → getD marks i 0 ≡ markOf one
-  far-mark l = sym (at i marks) ∙ ap (λ (t : List ℕ). getD t 0 0) (marks-next l)
-
-  pub far-most : i < n → getD marks i 0 ≤ 1
-  far-most l = omega (arith, far-mark l, mark-most one)
-
-  pub far-inside : i < n → i < length marks
-  far-inside l = omega (arith, sym (length-drop i marks) ∙ ap length (marks-next l))
-
-  eligible-next : i < n → j + length (withAggregate one aggregates) ≡ length (c .aggregates)
-  eligible-next l =
-      ap (λ (t : List ℕ). j + length t) (sym (rest catalogue table year n counts results (aggregates-made outcomes) ids i place one l refl)) ∙ f .eligible
-
-  pub far-within : i < n → Within j one (length (c .aggregates))
-  far-within l = go one (eligible-next l)
-    where
-      go : (o : Outcome Values) → j + length (withAggregate o aggregates) ≡ length (c .aggregates) → Within j o (length (c .aggregates))
-      go (refused f) w = tt
-      go (accepted v) w = omega (arith, w)
-
-  pub far-more : (line : List ℕ) → i < n → line ≡ lineOf c j (getD ids i 0) one
-      → Far catalogue table year n ids counts results marks c (i + 1) (place + resultBytes * getD counts i 0) (j + getD marks i 0) (sofar ++ line)
-  unfolding linesOf
-  far-more line l x =
+  pub far-more : (line : List ℕ) (k : ℕ) → i < length numbers → line ≡ lineKept c j (getD ids i 0) (getD numbers i 0) (getD places i 0) → k ≡ afterKept j (getD numbers i 0)
+      → Far c ids numbers places (i + 1) k (sofar ++ line)
+  far-more line k l x u =
       record {
         lines =
             f .lines
-            ∙ ap (λ (t : List ℕ). sofar ++ t) (ap (lines-by j) (next n ids counts results i place l) ∙ ap after (told-is catalogue table year n counts results ids i place one refl)
-            ∙ sym (ap (λ (t : List ℕ). t ++ lines-by k others) x ∙ ap (λ (k : ℕ). lineOf c j (getD ids i 0) one ++ lines-by k others) u))
-            ∙ sym (append-assoc sofar line (lines-by k others));
-        eligible = ap (λ (k : ℕ). k + length aggregates) u ∙ go one (eligible-next l);
-        marked = sym (drop-drop 1 i marks) ∙ ap (drop 1) (marks-next l);
+            ∙ ap (λ (t : List ℕ). sofar ++ t) (lines-next c ids numbers places i j l ∙ sym (ap (λ (t : List ℕ). t ++ lines-from c ids numbers places (i + 1) k) x
+            ∙ ap (λ (k : ℕ). lineKept c j (getD ids i 0) (getD numbers i 0) (getD places i 0) ++ lines-from c ids numbers places (i + 1) k) u))
+            ∙ sym (append-assoc sofar line (lines-from c ids numbers places (i + 1) k));
+        eligible = f .eligible ∙ eligible-next c ids numbers places i j l ∙ sym (ap (λ (k : ℕ). eligibleKept k (drop (i + 1) numbers)) u);
       }
-    where
-      k : ℕ
-      k = j + getD marks i 0
-
-      u : k ≡ afterOne j one
-      u = ap (λ (m : ℕ). j + m) (far-mark l) ∙ after-mark j one
-
-      after : Outcome Values → List ℕ
-      after o = lineOf c j (getD ids i 0) o ++ lines-by (afterOne j o) others
-
-      go : (o : Outcome Values) → j + length (withAggregate o aggregates) ≡ length (c .aggregates) → afterOne j o + length aggregates ≡ length (c .aggregates)
-      go (refused g) w = omega (arith, w)
-      go (accepted v) w = omega (arith, w)
-
--- a mark of 1 is that of an eligible student
-pub marked-within : (j : ℕ) (o : Outcome Values) (n : ℕ) → markOf o ≡ 1 → Within j o n → j < n
-marked-within j (accepted v) n e h = h
-marked-within j (refused f) n e h = absurd (omega (arith, e))
-
-pub marked-line : (c : Columns) (j id : ℕ) (o : Outcome Values) → markOf o ≡ 1 → eligibleLine c j id ≡ lineOf c j id o
-marked-line c j id (accepted v) e = refl
-marked-line c j id (refused f) e = absurd (omega (arith, e))

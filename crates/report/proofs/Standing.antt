@@ -38,12 +38,12 @@ unfolding studentsIn
 none n ids counts results i place h = let e : n - i ≡ 0 = omega arith in ap (λ (k : ℕ). studentsIn k (drop i ids) (drop i counts) (drop place results)) e
 
 -- students laid into buffers stand there
-pub stand : (ss : List Enrolled) (x y z : List ℕ) → Each FewResults ss → studentsIn (length ss) (idsOf ss ++ x) (countsOf ss ++ y) (resultsOf ss ++ z) ≡ ss
+pub stand : (ss : List Enrolled) (rest : List ℕ) → Each FewResults ss → studentsIn (length ss) (idsOf ss) (countsOf ss) (resultsOf ss ++ rest) ≡ ss
 unfolding studentsIn resultsOf
-stand [] x y z h = refl
-stand (s ∷ ss) x y z h =
-    let a = append-assoc (s .results) (resultsOf ss) z in
+stand [] rest h = refl
+stand (s ∷ ss) rest h =
+    let a = append-assoc (s .results) (resultsOf ss) rest in
     let l : length (s .results) ≡ resultBytes * counted s = h .0 .0 in
-    let t : take (resultBytes * counted s) ((s .results ++ resultsOf ss) ++ z) ≡ s .results = ap (take (resultBytes * counted s)) a ∙ take-at (s .results) (resultsOf ss ++ z) (resultBytes * counted s) l in
-    let d : drop (resultBytes * counted s) ((s .results ++ resultsOf ss) ++ z) ≡ resultsOf ss ++ z = ap (drop (resultBytes * counted s)) a ∙ drop-at (s .results) (resultsOf ss ++ z) (resultBytes * counted s) l in
-    rw (t, d) (ap (λ (l : List Enrolled). s ∷ l) (stand ss x y z (h .1)))
+    let t : take (resultBytes * counted s) ((s .results ++ resultsOf ss) ++ rest) ≡ s .results = ap (take (resultBytes * counted s)) a ∙ take-at (s .results) (resultsOf ss ++ rest) (resultBytes * counted s) l in
+    let d : drop (resultBytes * counted s) ((s .results ++ resultsOf ss) ++ rest) ≡ resultsOf ss ++ rest = ap (drop (resultBytes * counted s)) a ∙ drop-at (s .results) (resultsOf ss ++ rest) (resultBytes * counted s) l in
+    rw (t, d) (ap (λ (l : List Enrolled). s ∷ l) (stand ss rest (h .1)))

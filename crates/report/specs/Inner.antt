@@ -1,18 +1,22 @@
 -- What the functions below the entry promise each other.
 use Prim.Native.Nat.{ℕ, zero, suc, _+_, _*_, _≤_, _<_}
 use mathlib.Core.Path.{_≡_}
-use mathlib.Core.List.{List, [], _∷_, map}
+use mathlib.Core.List.{List, [], _∷_, _++_, map}
 use lib.ListN.{length, getD, take, drop, set}
-use Rattle.paper.specs.Limits.{resultBytes, mostResults, mostAggregate, mostStudents, resultsBytes}
-use Rattle.paper.specs.Rulings.{Outcome, accepted, refused}
-use Rattle.bestset.specs.Promise.{Values}
-use Rattle.results.specs.Results.{student}
-use Rattle.bestset.specs.Computed.{computed}
-use Rattle.curve.specs.Population.{Y}
-use Rattle.curve.specs.Promise.{values, populationRuling}
-use Rattle.cohort.specs.Held.{Enrolled}
+use Rattle.paper.specs.Limits.{resultBytes, mostResults, mostAggregate, mostStudents, resultsBytes, mostPopulation, leastRate, mostRate}
 use Rattle.paper.specs.Parts.{laid}
-use Rattle.report.specs.Report.{Columns, aggregatesOf}
+use Rattle.paper.specs.Rulings.{Outcome, accepted, refused, numberOf, placeOf}
+use Rattle.paper.specs.Words.{_=?_, if_then_else_}
+use Rattle.results.specs.Results.{student}
+use Rattle.bestset.specs.Promise.{Values}
+use Rattle.bestset.specs.Computed.{computed}
+use Rattle.curve.specs.Curve.{tableOf}
+use Rattle.bands.specs.Placing.{remainder}
+use Rattle.cohort.specs.Held.{Enrolled}
+use Rattle.listing.specs.Lines.{cohortLine, studentLine, refusedLine, lineBytes}
+use Rattle.report.specs.Sizes.{textBytes}
+use Rattle.report.specs.Report.{Columns, columnsOf, aggregatesOf}
+use Rattle.report.specs.declared.placing.Placed.{Placed}
 
 -- the first n students whose ids, numbers of results and results stand in buffers
 unfoldable pub studentsIn : ℕ → List ℕ → List ℕ → List ℕ → List Enrolled
@@ -25,64 +29,127 @@ studentsIn (suc n) ids counts results =
 abbrev pub outcomeAt : List ℕ → List ℕ → ℕ → List ℕ → ℕ → ℕ → Outcome Values
 outcomeAt catalogue table year results place count = computed (student catalogue year (take (resultBytes * count) (drop place results))) table
 
--- a student's mark: 1 where eligible, else 0
-abbrev pub markOf : Outcome Values → ℕ
-markOf (accepted v) = 1
-markOf (refused f) = 0
+-- the number and the place of an outcome's refusal, both 0 where it is accepted
+abbrev pub numberIn : Outcome Values → ℕ
+numberIn (accepted v) = 0
+numberIn (refused f) = numberOf f
 
--- the marks of the students, in file order
-abbrev pub marksOf : (Enrolled → Outcome Values) → List Enrolled → List ℕ
-marksOf outcomes students = map (λ (s : Enrolled). markOf (outcomes s)) students
+abbrev pub placeIn : Outcome Values → ℕ
+placeIn (accepted v) = 0
+placeIn (refused f) = placeOf f
 
--- who is eligible, and the aggregates of the eligible
-pub record Eligible (outcomes : Enrolled → Outcome Values) (students : List Enrolled) (aggregates marks : List ℕ) : Type 0 where
+-- of the students in file order
+abbrev pub numbersOf : (Enrolled → Outcome Values) → List Enrolled → List ℕ
+numbersOf outcomes students = map (λ (s : Enrolled). numberIn (outcomes s)) students
+
+abbrev pub placesOf : (Enrolled → Outcome Values) → List Enrolled → List ℕ
+placesOf outcomes students = map (λ (s : Enrolled). placeIn (outcomes s)) students
+
+-- what is kept of the students: the aggregates of the eligible, and of each student the number and the place of the refusal
+pub record Kept (outcomes : Enrolled → Outcome Values) (students : List Enrolled) (aggregates numbers places : List ℕ) : Type 0 where
   pub aggregates-are : aggregates ≡ aggregatesOf outcomes students
-  pub marks-are : marks ≡ marksOf outcomes students
+  pub numbers-are : numbers ≡ numbersOf outcomes students
+  pub places-are : places ≡ placesOf outcomes students
 
 -- at most 512 students, of at most 16 results
-pub record Few (n : ℕ) (counts results : List ℕ) : Type 0 where
-  pub students : n ≤ mostStudents
-  pub each : (i : ℕ) → i < n → getD counts i 0 ≤ mostResults
-  pub counted : n ≤ length counts
+pub record Few (counts results : List ℕ) : Type 0 where
+  pub students : length counts ≤ mostStudents
+  pub each : (i : ℕ) → i < length counts → getD counts i 0 ≤ mostResults
   pub bytes : length results ≡ resultsBytes
 
+-- such students, with a buffer for each column
+pub record Keepable (counts results aggregates numbers places : List ℕ) : Type 0 where
+  pub few : Few counts results
+  pub aggregates-long : length aggregates ≡ mostStudents
+  pub numbers-long : length numbers ≡ length counts
+  pub places-long : length places ≡ length counts
+
 -- the aggregate of an eligible student, kept as the j-th of a buffer
-abbrev pub kept : Outcome Values → List ℕ → ℕ → List ℕ
-kept (accepted v) buffer j = set buffer j (v .aggregate)
-kept (refused f) buffer j = buffer
+abbrev pub joined : Outcome Values → List ℕ → ℕ → List ℕ
+joined (accepted v) buffer j = set buffer j (v .aggregate)
+joined (refused f) buffer j = buffer
 
--- the first m numbers of a buffer of 512 are the aggregates of the eligible among n students, and the first n of another are their marks
-pub record Collected (outcomes : Enrolled → Outcome Values) (n : ℕ) (counts results buffer marks : List ℕ) (m : ℕ) : Type 0 where
+-- the first m numbers of a buffer of 512 are the aggregates of the eligible, and two columns the numbers and places of all
+pub record Collected (outcomes : Enrolled → Outcome Values) (counts results buffer numbers places : List ℕ) (m : ℕ) : Type 0 where
   pub long : length buffer ≡ mostStudents
-  pub marks-long : length marks ≡ mostStudents
-  pub within : m ≤ n
-  pub are : (ids : List ℕ) → Eligible outcomes (studentsIn n ids counts results) (take m buffer) (take n marks)
+  pub numbers-long : length numbers ≡ length counts
+  pub places-long : length places ≡ length counts
+  pub within : m ≤ length counts
+  pub are : (ids : List ℕ) → Kept outcomes (studentsIn (length counts) ids counts results) (take m buffer) numbers places
 
--- each column is as long as the aggregates
-pub record Even (c : Columns) : Type 0 where
-  pub ranks : length (c .ranks) ≡ length (c .aggregates)
-  pub percentiles : length (c .percentiles) ≡ length (c .aggregates)
-  pub bands : length (c .bands) ≡ length (c .aggregates)
+-- a rate and a Y that are accepted
+pub record Populated (rate population : ℕ) : Type 0 where
+  pub least-rate : leastRate ≤ rate
+  pub most-rate : rate ≤ mostRate
+  pub some : 1 ≤ population
+  pub most : population ≤ mostPopulation
 
--- figures that are accepted, and their Y
-pub record Populated (figures : List ℕ) (population : ℕ) : Type 0 where
-  pub kept : populationRuling figures ≡ accepted (values figures)
-  pub people : population ≡ Y figures
+-- aggregates of a cohort of at most 512
+pub record Placeable (rate population : ℕ) (aggregates : List ℕ) : Type 0 where
+  pub populated : Populated rate population
+  pub few : length aggregates ≤ mostStudents
+  pub each : (i : ℕ) → getD aggregates i 0 ≤ mostAggregate
 
--- aggregates of a cohort of at most 512, with a buffer of their number for each column
-pub record Placeable (figures : List ℕ) (population : ℕ) (c : Columns) : Type 0 where
-  pub populated : Populated figures population
-  pub few : length (c .aggregates) ≤ mostStudents
-  pub each : (i : ℕ) → getD (c .aggregates) i 0 ≤ mostAggregate
-  pub even : Even c
+-- the columns of the eligible: their aggregates, and what was placed
+abbrev pub columns : List ℕ → Placed → Columns
+columns aggregates p = record { aggregates = aggregates; ranks = p .ranks; percentiles = p .percentiles; bands = p .bands }
 
-abbrev pub columns : List ℕ → List ℕ → List ℕ → List ℕ → Columns
-columns aggregates ranks percentiles bands = record { aggregates = aggregates; ranks = ranks; percentiles = percentiles; bands = bands }
+-- what was placed begins with what is listed of the eligible, and has their remainder
+pub record Places (table : List ℕ) (Y : ℕ) (aggregates : List ℕ) (p : Placed) : Type 0 where
+  pub ranks-are : take (length aggregates) (p .ranks) ≡ columnsOf table Y aggregates .ranks
+  pub percentiles-are : take (length aggregates) (p .percentiles) ≡ columnsOf table Y aggregates .percentiles
+  pub bands-are : take (length aggregates) (p .bands) ≡ columnsOf table Y aggregates .bands
+  pub left : p .remainder ≡ remainder aggregates table Y
 
--- a student who is eligible is the j-th of so many
-abbrev pub Within : ℕ → Outcome Values → ℕ → Type 0
-Within j (accepted v) n = j < n
-Within j (refused f) n = Unit {0}
+-- a student's line: with the number 0 that of an eligible one
+abbrev pub lineOr : ℕ → ℕ → ℕ → ℕ → ℕ → ℕ → ℕ → List ℕ
+lineOr id number place aggregate rank percentile band = if number =? 0 then studentLine id aggregate rank percentile band else refusedLine id number place
+
+-- the line of the student of whom this is kept, and who is, if eligible, the j-th of the eligible
+abbrev pub lineKept : Columns → ℕ → ℕ → ℕ → ℕ → List ℕ
+lineKept c j id number place = lineOr id number place (getD (c .aggregates) j 0) (getD (c .ranks) j 0) (getD (c .percentiles) j 0) (getD (c .bands) j 0)
+
+-- how many are eligible with one student more
+abbrev pub afterKept : ℕ → ℕ → ℕ
+afterKept j number = if number =? 0 then suc j else j
+
+-- a line per student, from ids, numbers and places; j students before them are eligible
+unfoldable pub linesKept : Columns → ℕ → List ℕ → List ℕ → List ℕ → List ℕ
+linesKept c j ids [] places = []
+linesKept c j ids (number ∷ numbers) places =
+    lineKept c j (getD ids 0 0) number (getD places 0 0) ++ linesKept c (afterKept j number) (drop 1 ids) numbers (drop 1 places)
+
+-- how many are eligible with these students more
+unfoldable pub eligibleKept : ℕ → List ℕ → ℕ
+eligibleKept j [] = j
+eligibleKept j (number ∷ numbers) = eligibleKept (afterKept j number) numbers
+
+-- at most 512 students, of each of whom number and place are kept, and room for their lines
+pub record Listable (ids numbers places text : List ℕ) (start : ℕ) : Type 0 where
+  pub few : length ids ≤ mostStudents
+  pub numbers-long : length numbers ≡ length ids
+  pub places-long : length places ≡ length ids
+  pub room : start + lineBytes * length ids ≤ length text
+
+-- what is kept of the students of a cohort, n of them eligible and placed, and a text buffer
+pub record Ready (ids numbers places : List ℕ) (n : ℕ) (p : Placed) (text : List ℕ) : Type 0 where
+  pub few : length ids ≤ mostStudents
+  pub numbers-long : length numbers ≡ length ids
+  pub places-long : length places ≡ length ids
+  pub within : n ≤ length ids
+  pub left : p .remainder ≤ n
+  pub room : length text ≡ textBytes
+
+-- the listing, from what is kept
+abbrev pub listedKept : List ℕ → List ℕ → List ℕ → List ℕ → ℕ → Placed → List ℕ
+listedKept ids numbers places aggregates n p = cohortLine (length ids) n (p .remainder) ++ linesKept (columns aggregates p) 0 ids numbers places
+
+-- a cohort in buffers, and a text buffer
+pub record Read (rate population : ℕ) (ids counts results text : List ℕ) : Type 0 where
+  pub populated : Populated rate population
+  pub ids-long : length ids ≡ length counts
+  pub few : Few counts results
+  pub room : length text ≡ textBytes
 
 -- a text put into a buffer, from a place to an end
 pub record Put (before after : List ℕ) (place end : ℕ) (text : List ℕ) : Type 0 where

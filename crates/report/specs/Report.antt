@@ -52,23 +52,25 @@ unfoldable pub linesOf : (Enrolled → Outcome Values) → Columns → ℕ → L
 linesOf outcomes c j [] = []
 linesOf outcomes c j (s ∷ students) = lineOf c j (s .id) (outcomes s) ++ linesOf outcomes c (afterOne j (outcomes s)) students
 
--- the participation table of the population's rate, and what is listed of the eligible
-abbrev pub participation : List ℕ → List ℕ
-participation figures = tableOf (rate figures)
-
-abbrev pub columnsOf : List ℕ → List ℕ → Columns
-columnsOf figures aggregates = record {
+-- participation table, Y and the aggregates of the eligible: what is listed of them
+abbrev pub columnsOf : List ℕ → ℕ → List ℕ → Columns
+columnsOf table Y aggregates = record {
   aggregates = aggregates;
   ranks = ranksOf aggregates;
   percentiles = percentilesOf aggregates;
-  bands = bandsOf aggregates (participation figures) (Y figures);
+  bands = bandsOf aggregates table Y;
 }
 
--- the listing of a cohort: the cohort's line, then a line per student
-abbrev pub listed : (Enrolled → Outcome Values) → List ℕ → List Enrolled → List ℕ → List ℕ
-listed outcomes figures students aggregates =
-    cohortLine (length students) (length aggregates) (remainder aggregates (participation figures) (Y figures))
-    ++ linesOf outcomes (columnsOf figures aggregates) 0 students
+-- outcomes, participation table, Y and the students: the listing of a cohort is the cohort's line, then a line per student
+abbrev pub listed : (Enrolled → Outcome Values) → List ℕ → ℕ → List Enrolled → List ℕ
+listed outcomes table Y students =
+    let eligible = aggregatesOf outcomes students in
+    cohortLine (length students) (length eligible) (remainder eligible table Y)
+    ++ linesOf outcomes (columnsOf table Y eligible) 0 students
+
+-- the participation table of the population's rate
+abbrev pub participation : List ℕ → List ℕ
+participation figures = tableOf (rate figures)
 
 -- the outcomes of what a file holds, and its eligible
 abbrev pub outcomeOf : Held → Enrolled → Outcome Values
@@ -78,7 +80,7 @@ abbrev pub eligibleOf : Held → List ℕ
 eligibleOf held = aggregatesOf (outcomeOf held) (held .students)
 
 abbrev pub textOfOutcome : Outcome Held → List ℕ
-textOfOutcome (accepted held) = listed (outcomeOf held) (held .figures) (held .students) (eligibleOf held)
+textOfOutcome (accepted held) = listed (outcomeOf held) (participation (held .figures)) (Y (held .figures)) (held .students)
 textOfOutcome (refused f) = fileLine (numberOf f) (placeOf f)
 
 -- the text of every file there is

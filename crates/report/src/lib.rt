@@ -1,11 +1,12 @@
 // A whole file to its listing.
 ghost use mathlib.Core.Path.{_≡_};
-ghost use Prim.Native.Nat.{_≤_};
 ghost use lib.ListN.{length};
+ghost use Rattle.curve.specs.Curve.{tableOf};
 ghost use Rattle.report.specs.Sizes.{textBytes};
-ghost use Rattle.report.specs.Report.{outcome, aggregatesOf, listed, textOf};
-ghost use Rattle.report.specs.Inner.{studentsIn, Eligible, Few, Populated, Placeable, columns, Put};
+ghost use Rattle.report.specs.Report.{outcome, listed, textOf};
+ghost use Rattle.report.specs.Inner.{studentsIn, listedKept, Ready, Read, Put};
 ghost use Rattle.report.specs.Promise.{Promise};
+use crate::placing::Placed;
 use paper::limits::CATALOGUE_BYTES;
 use paper::limits::ENTRY_BYTES;
 use paper::limits::FIGURE_COUNT;
@@ -29,101 +30,68 @@ pub enum Answer {
 // The bytes of a lent text buffer.
 pub const TEXT_BYTES: usize = 65536;
 
-// Ranks and places the eligible, and lists the cohort: its line, then a line per student. Answers where the text ends.
-fn list_placed(
-    catalogue: &[u8],
-    table: &[u8],
-    year: u64,
-    figures: &[u32],
+// What is read of a file beside the buffers: the year, Y and r.
+struct Told {
+    year: u16,
     population: u32,
-    students: usize,
-    ids: &[u32],
-    counts: &[u8],
-    results: &[u8],
-    marks: &[u8],
-    aggregates: &[u32],
-    ranks: &mut [u32],
-    percentiles: &mut [u32],
-    bands: &mut [u16],
-    text: &mut [u8],
-) -> usize
-    requires { ⌜ Few students (now counts) (now results) × (students ≤ length (now ids)) × Placeable (now figures) population (columns (now aggregates) (now ranks) (now percentiles) (now bands))
-        × Eligible (outcome (now catalogue) (now table) year) (studentsIn students (now ids) (now counts) (now results)) (now aggregates) (now marks)
-        × (length (now text) ≡ textBytes) ⌝ }
-    ensures { λ r. ⌜ Put (now (text .entry)) (now (text .exit)) 0 r
-        (listed (outcome (now (catalogue .entry)) (now (table .entry)) year) (now (figures .entry))
-        (studentsIn students (now (ids .entry)) (now (counts .entry)) (now (results .entry))) (now (aggregates .entry))) ⌝ }
-{
-    let remainder = placing::place(figures, population, aggregates, ranks, percentiles, bands);
-    let line = listing::cohort_line(students as u32, aggregates.len() as u32, remainder as u32);
-    let start = writing::append(text, 0, line);
-    lines::lines(
-        catalogue,
-        table,
-        year,
-        students,
-        ids,
-        counts,
-        results,
-        marks,
-        aggregates,
-        ranks,
-        percentiles,
-        bands,
-        text,
-        start,
-    )
+    rate: u32,
 }
 
-// Lists a cohort, and answers where the text ends.
-fn list_cohort(
+// The cohort's line, with n eligible students, then a line per student. Answers where the text ends.
+fn list_placed(
+    ids: &[u32],
+    numbers: &[u8],
+    places: &[usize],
+    aggregates: &[u32; MOST_STUDENTS],
+    n: usize,
+    placed: Placed,
+    text: &mut [u8],
+) -> usize
+    requires { ⌜ Ready (now ids) (now numbers) (now places) n placed (now text) ⌝ }
+    ensures { λ r. ⌜ Put (now (text .entry)) (now (text .exit)) 0 r (listedKept (now (ids .entry)) (now (numbers .entry)) (now (places .entry)) (now (aggregates .entry)) n placed) ⌝ }
+{
+    let line = listing::cohort_line(ids.len() as u32, n as u32, placed.remainder as u32);
+    let start = writing::append(text, 0, line);
+    lines::lines(ids, numbers, places, aggregates, placed, text, start)
+}
+
+// Lists a cohort that was read: each student's outcome once, the eligible ranked and placed, the lines. Answers where the text ends.
+fn list_read(
+    told: Told,
     catalogue: &[u8],
     table: &[u8],
-    year: u64,
-    figures: &[u32],
-    population: u32,
-    students: usize,
     ids: &[u32],
     counts: &[u8],
     results: &[u8],
     text: &mut [u8],
 ) -> usize
-    requires { ⌜ Few students (now counts) (now results) × (students ≤ length (now ids)) × Populated (now figures) population × (length (now text) ≡ textBytes) ⌝ }
+    requires { ⌜ Read (told .rate) (told .population) (now ids) (now counts) (now results) (now text) ⌝ }
     ensures { λ r. ⌜ Put (now (text .entry)) (now (text .exit)) 0 r
-        (listed (outcome (now (catalogue .entry)) (now (table .entry)) year) (now (figures .entry))
-        (studentsIn students (now (ids .entry)) (now (counts .entry)) (now (results .entry)))
-        (aggregatesOf (outcome (now (catalogue .entry)) (now (table .entry)) year) (studentsIn students (now (ids .entry)) (now (counts .entry)) (now (results .entry))))) ⌝ }
+        (listed (outcome (now (catalogue .entry)) (now (table .entry)) (told .year)) (tableOf (told .rate)) (told .population)
+        (studentsIn (length (now (counts .entry))) (now (ids .entry)) (now (counts .entry)) (now (results .entry)))) ⌝ }
 {
+    let students = counts.len();
     let mut aggregates = [0u32; MOST_STUDENTS];
-    let mut marks = [0u8; MOST_STUDENTS];
+    let mut numbers = [0u8; MOST_STUDENTS];
+    let mut places = [0usize; MOST_STUDENTS];
     let n = students::collect(
         catalogue,
         table,
-        year,
-        students,
+        told.year as u64,
         counts,
         results,
         &mut aggregates,
-        &mut marks,
+        &mut numbers[..students],
+        &mut places[..students],
     );
-    let mut ranks = [0u32; MOST_STUDENTS];
-    let mut percentiles = [0u32; MOST_STUDENTS];
-    let mut bands = [0u16; MOST_STUDENTS];
+    let placed = placing::place(told.rate, told.population, &aggregates[..n]);
     list_placed(
-        catalogue,
-        table,
-        year,
-        figures,
-        population,
-        students,
         ids,
-        counts,
-        results,
-        &marks[..students],
-        &aggregates[..n],
-        &mut ranks[..n],
-        &mut percentiles[..n],
-        &mut bands[..n],
+        &numbers[..students],
+        &places[..students],
+        &aggregates,
+        n,
+        placed,
         text,
     )
 }
@@ -155,19 +123,20 @@ fn list_file(file: &[u8], text: &mut [u8]) -> usize
             subjects,
             students,
             population,
-            rate: _,
+            rate,
         } => {
             let c = ENTRY_BYTES * subjects;
             let t = ROW_BYTES * subjects;
-            list_cohort(
+            list_read(
+                Told {
+                    year,
+                    population,
+                    rate,
+                },
                 &catalogue[..c],
                 &table[..t],
-                year as u64,
-                &figures,
-                population,
-                students,
-                &ids,
-                &counts,
+                &ids[..students],
+                &counts[..students],
                 &results,
                 text,
             )

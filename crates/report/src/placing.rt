@@ -1,30 +1,38 @@
 // The ranks, percentiles and bands of the eligible.
-ghost use mathlib.Core.Path.{_≡_};
-ghost use Rattle.curve.specs.Population.{Y};
-ghost use Rattle.bands.specs.Placing.{remainder};
-ghost use Rattle.report.specs.Report.{participation, columnsOf};
-ghost use Rattle.report.specs.Inner.{Placeable, columns};
+ghost use Rattle.curve.specs.Curve.{tableOf};
+ghost use Rattle.report.specs.Inner.{Placeable, Places};
 use paper::limits::BAND_COUNT;
+use paper::limits::MOST_STUDENTS;
 
-// Ranks the eligible and places them in bands, and answers the remainder.
-pub(crate) fn place(
-    figures: &[u32],
-    population: u32,
-    aggregates: &[u32],
-    ranks: &mut [u32],
-    percentiles: &mut [u32],
-    bands: &mut [u16],
-) -> usize
-    requires { ⌜ Placeable (now figures) population (columns (now aggregates) (now ranks) (now percentiles) (now bands)) ⌝ }
-    ensures { λ r. ⌜ (columns (now (aggregates .entry)) (now (ranks .exit)) (now (percentiles .exit)) (now (bands .exit)) ≡ columnsOf (now (figures .entry)) (now (aggregates .entry)))
-        × (r ≡ remainder (now (aggregates .entry)) (participation (now (figures .entry))) (Y (now (figures .entry)))) ⌝ }
+// Of each of the eligible the rank, the percentile and the band, in file order, and then zeros; and the remainder.
+pub struct Placed {
+    pub ranks: [u32; MOST_STUDENTS],
+    pub percentiles: [u32; MOST_STUDENTS],
+    pub bands: [u16; MOST_STUDENTS],
+    pub remainder: usize,
+}
+
+// Ranks the eligible and places them in bands. That neither call refuses is ranks-accept and bands-accept in proofs/Accepting.antt.
+pub(crate) fn place(rate: u32, population: u32, aggregates: &[u32]) -> Placed
+    requires { ⌜ Placeable rate population (now aggregates) ⌝ }
+    ensures { λ r. ⌜ Places (tableOf rate) population (now (aggregates .entry)) r ⌝ }
 {
+    let n = aggregates.len();
+    let mut ranks = [0u32; MOST_STUDENTS];
+    let mut percentiles = [0u32; MOST_STUDENTS];
+    ranks::ranks(aggregates, &mut ranks[..n], &mut percentiles[..n]);
     let mut table = [0u32; BAND_COUNT];
-    curve::curve(figures, &mut table);
-    ranks::ranks(aggregates, ranks, percentiles);
-    let placed = bands::place(aggregates, &table, population, bands);
-    match placed {
-        bands::Answer::Accepted { remainder } => remainder,
-        bands::Answer::Refused(_) => 0,
+    curve::draw(rate, &mut table);
+    let mut bands = [0u16; MOST_STUDENTS];
+    let placed = bands::place(aggregates, &table, population, &mut bands[..n]);
+    let mut remainder = 0;
+    if let bands::Answer::Accepted { remainder: left } = placed {
+        remainder = left;
+    }
+    Placed {
+        ranks,
+        percentiles,
+        bands,
+        remainder,
     }
 }

@@ -1,16 +1,17 @@
-// Each student's best set, who is eligible, and the aggregates of the eligible.
+// Each student's outcome, once: the aggregates of the eligible, the number and the place of each refusal.
 ghost use mathlib.Core.Path.{_≡_};
 ghost use Prim.Native.Nat.{_+_, _*_, _≤_, _<_};
 ghost use lib.ListN.{length};
-ghost use Rattle.paper.specs.Limits.{resultBytes, mostStudents};
+ghost use Rattle.paper.specs.Limits.{resultBytes};
 ghost use Rattle.bestset.specs.Promise.{said};
-ghost use Rattle.report.specs.Report.{outcome};
-ghost use Rattle.report.specs.Inner.{outcomeAt, markOf, Few, kept, Collected};
+ghost use Rattle.report.specs.Report.{outcome, afterOne};
+ghost use Rattle.report.specs.Inner.{outcomeAt, numberIn, placeIn, joined, Keepable, Collected};
 use bestset::Answer;
 use paper::limits::RESULT_BYTES;
+use paper::refusal;
 
 // The best set of the student whose results stand from a place on.
-pub(crate) fn best_at(
+fn best_at(
     catalogue: &[u8],
     table: &[u8],
     year: u64,
@@ -25,53 +26,69 @@ pub(crate) fn best_at(
     bestset::best_set(catalogue, table, year, &results[place..end])
 }
 
-// Keeps the aggregate of an eligible student, as the j-th.
-fn keep(answer: Answer, j: usize, aggregates: &mut [u32])
-    requires { ⌜ j < length (now aggregates) ⌝ }
-    ensures { λ _. ⌜ now (aggregates .exit) ≡ kept (said answer) (now (aggregates .entry)) j ⌝ }
-{
-    if let Answer::Accepted { aggregate, set: _ } = answer {
-        aggregates[j] = aggregate;
-    }
-}
-
-// 1 for an eligible student, 0 for a refused one.
-fn mark_of(answer: Answer) -> u8
-    ensures { λ r. ⌜ r ≡ markOf (said answer) ⌝ }
+// The number of a refusal, 0 of an eligible student.
+fn number_in(answer: Answer) -> u8
+    ensures { λ r. ⌜ r ≡ numberIn (said answer) ⌝ }
 {
     match answer {
         Answer::Accepted {
             aggregate: _,
             set: _,
-        } => 1,
-        Answer::Refused(_) => 0,
+        } => 0,
+        Answer::Refused(x) => refusal::number(x),
     }
 }
 
-// Marks each student, collects the aggregates of the eligible in file order, and counts them.
+// The place of a refusal, 0 of an eligible student.
+fn place_in(answer: Answer) -> usize
+    ensures { λ r. ⌜ r ≡ placeIn (said answer) ⌝ }
+{
+    match answer {
+        Answer::Accepted {
+            aggregate: _,
+            set: _,
+        } => 0,
+        Answer::Refused(x) => refusal::place(x),
+    }
+}
+
+// Joins the aggregate of an eligible student to j others, and counts them.
+fn join(answer: Answer, j: usize, aggregates: &mut [u32]) -> usize
+    requires { ⌜ j < length (now aggregates) ⌝ }
+    ensures { λ r. ⌜ (now (aggregates .exit) ≡ joined (said answer) (now (aggregates .entry)) j) × (r ≡ afterOne j (said answer)) ⌝ }
+{
+    match answer {
+        Answer::Accepted { aggregate, set: _ } => {
+            aggregates[j] = aggregate;
+            j + 1
+        }
+        Answer::Refused(_) => j,
+    }
+}
+
+// Keeps what is told of each student, collects the aggregates of the eligible in file order, and counts these.
 pub(crate) fn collect(
     catalogue: &[u8],
     table: &[u8],
     year: u64,
-    students: usize,
     counts: &[u8],
     results: &[u8],
     aggregates: &mut [u32],
-    marks: &mut [u8],
+    numbers: &mut [u8],
+    places: &mut [usize],
 ) -> usize
-    requires { ⌜ Few students (now counts) (now results) × (length (now aggregates) ≡ mostStudents) × (length (now marks) ≡ mostStudents) ⌝ }
-    ensures { λ r. ⌜ Collected (outcome (now (catalogue .entry)) (now (table .entry)) year) students (now (counts .entry)) (now (results .entry)) (now (aggregates .exit)) (now (marks .exit)) r ⌝ }
+    requires { ⌜ Keepable (now counts) (now results) (now aggregates) (now numbers) (now places) ⌝ }
+    ensures { λ r. ⌜ Collected (outcome (now (catalogue .entry)) (now (table .entry)) year) (now (counts .entry)) (now (results .entry)) (now (aggregates .exit)) (now (numbers .exit)) (now (places .exit)) r ⌝ }
 {
     let mut i = 0;
     let mut place = 0;
     let mut eligible = 0;
-    while i < students {
+    while i < counts.len() {
         let count = counts[i] as usize;
         let answer = best_at(catalogue, table, year, results, place, count);
-        keep(answer, eligible, aggregates);
-        let mark = mark_of(answer);
-        marks[i] = mark;
-        eligible += mark as usize;
+        eligible = join(answer, eligible, aggregates);
+        numbers[i] = number_in(answer);
+        places[i] = place_in(answer);
         place += RESULT_BYTES * count;
         i += 1;
     }

@@ -1,7 +1,5 @@
-use Rattle.listing.proofs.Joining.{written, _then_}
 use Rattle.listing.proofs.Fits.{refused-fits}
-use Rattle.paper.specs.Refusals.{fault}
-use Rattle.paper.specs.Rulings.{numberOf, placeOf}
+use Rattle.listing.proofs.Joining.{written, _then_}
 use borrow.Author.Needs.{needs}
 use Rattle.listing.proofs.refused_line.Statement.{statement}
 use Rattle.listing.proofs.refused_line.Tie as tie
@@ -23,10 +21,7 @@ refusal-requires : tie.Need-refusal-requires
 refusal-requires c κs = search needs
 
 returns : tie.Need-returns
-returns c =
-    let f = fault (c .before .before .before .before .args .refusal) in
-    written (refused-fits _ (numberOf f) (placeOf f) (c .before .before .before .before .fits .id .fits) (c .refusal .ensures .1)) (c .before .before .before .empty .ensures)
-    (c .before .before .number .ensures then c .before .byte .ensures then c .refusal .ensures .0)
+returns c = written (refused-fits _ _ _ (c .before .before .before .before .fits .id .fits) (c .refusal .ensures .1)) (c .before .before .before .empty .ensures) (c .before .before .number .ensures then c .before .byte .ensures then c .refusal .ensures .0)
 
 pub refused-line-spec : {M : Type 1} → statement M
 refused-line-spec =

@@ -1,8 +1,9 @@
-use Rattle.paper.specs.Limits.{entryBytes, rowBytes, mostSubjects}
 use Rattle.report.proofs.Puts.{shows-own}
-use Rattle.report.proofs.Filed.{refused-text, Taken, Lent, zeros, zeros-lent, taken, few-subjects, lent, few, enough, populated, accepted-text}
+use Rattle.report.proofs.Filed.{refused-text, Taken, zeros, zeros-sized, taken, few-subjects, few-students, sized, ready, accepted-text}
 use Rattle.report.specs.Inner.{Put}
-use Rattle.cohort.specs.Promise.{Values, said, Lent as Buffers, lent as buffers}
+use Rattle.cohort.specs.Inner.{Sized}
+use Rattle.cohort.specs.Promise.{Values, said, Lent, lent}
+use Rattle.paper.specs.Limits.{entryBytes, rowBytes}
 use lib.Seq.{length-take-le}
 use mathlib.Core.Path.{sym, ap, subst, _∙_}
 use Prim.Native.Nat.{_*_, _≤_}
@@ -12,27 +13,32 @@ use Rattle.report.proofs.list_file.Statement.{statement}
 use Rattle.report.proofs.list_file.Tie as tie
 use Rattle.cohort.proofs.read.Reads as read-reads
 use Rattle.listing.proofs.file_line.Reads as file-line-reads
-use Rattle.report.proofs.list_cohort.Reads as list-cohort-reads
+use Rattle.report.proofs.list_read.Reads as list-read-reads
 use Rattle.report.proofs.writing.append.Reads as append-reads
 
-abbrev values : (c : tie.After-known-told2) → Values
-values c =
-    let g = c .before .read3 .given .0 in
-    record { year = g .0; subjects = g .1 .0; students = g .1 .1 .0; population = g .1 .1 .1 .0; rate = g .1 .1 .1 .1 .0 }
+abbrev begun : tie.After-read → tie.Start
+begun c = c .before .before .before .before .before .before .before .before .before
 
-abbrev left : (c : tie.After-known-told2) → Buffers
-left c =
-    let l = c .before .before .before .read .last in
-    buffers (l .1 .0) (l .1 .1 .0) (l .1 .1 .1 .0) (l .1 .1 .1 .1 .0) (l .1 .1 .1 .1 .1 .0) (l .1 .1 .1 .1 .1 .1 .0)
+abbrev left : tie.After-read → Lent
+left c = let l = c .read .last in lent (l .1 .0) (l .1 .1 .0) (l .1 .1 .1 .0) (l .1 .1 .1 .1 .0) (l .1 .1 .1 .1 .1 .0) (l .1 .1 .1 .1 .1 .1 .0)
 
-told : (c : tie.After-known-told2) → Taken (c .before .before .before .before .before .before .before .before .before .before .before .before .args .file .now) zeros (left c) (values c)
-told c = taken _ zeros (c .before .before .before .read .result) (left c) (values c) (ap said (c .before .read3 .given .1)) (c .before .before .before .read .ensures)
+abbrev values : tie.After-known-told2 → Values
+values c = let g = c .before .read3 .given .0 in record { year = g .0; subjects = g .1 .0; students = g .1 .1 .0; population = g .1 .1 .1 .0; rate = g .1 .1 .1 .1 .0 }
 
-subjects-few : (c : tie.After-known-told2) → values c .subjects ≤ mostSubjects
-subjects-few c = few-subjects _ zeros (left c) (values c) zeros-lent (told c)
+abbrev after : tie.After-known-told2 → Lent
+after c = left (c .before .before .before)
 
-long : (c : tie.After-known-told2) → Lent (left c)
-long c = lent _ zeros (left c) (values c) zeros-lent (told c)
+told : (c : tie.After-known-told2) → Taken (begun (c .before .before .before) .args .file .now) zeros (after c) (values c)
+told c = taken _ zeros (c .before .before .before .read .result) (after c) (values c) (ap said (c .before .read3 .given .1)) (c .before .before .before .read .ensures)
+
+long : (c : tie.After-known-told2) → Sized (after c)
+long c = sized _ zeros (after c) (values c) zeros-sized (told c)
+
+subjects-few : (c : tie.After-known-told2) → values c .subjects ≤ 64
+subjects-few c = few-subjects _ zeros (after c) (values c) zeros-sized (told c)
+
+students-few : (c : tie.After-known-told2) → values c .students ≤ 512
+students-few c = few-students _ zeros (after c) (values c) zeros-sized (told c)
 
 read-requires : tie.Need-read-requires
 read-requires c κs = search needs
@@ -58,52 +64,64 @@ mul-t c = let w = subjects-few c in search needs
 array-share-prefix-catalogue : tie.Need-array-share-prefix-catalogue
 array-share-prefix-catalogue c = omega (arith, subjects-few c, long c .catalogue)
 
-slice-aggregate-list-cohort : tie.Need-slice-aggregate-list-cohort
-slice-aggregate-list-cohort c = sym (length-take-le (entryBytes * values (c .before) .subjects) (left (c .before) .catalogue) (omega (arith, subjects-few (c .before), long (c .before) .catalogue)))
+slice-aggregate-list-read : tie.Need-slice-aggregate-list-read
+slice-aggregate-list-read c =
+    let d = c .before in
+    sym (length-take-le (entryBytes * values d .subjects) (after d .catalogue) (omega (arith, subjects-few d, long d .catalogue)))
 
 array-share-prefix-table : tie.Need-array-share-prefix-table
 array-share-prefix-table c = omega (arith, subjects-few (c .before), long (c .before) .table)
 
-slice-aggregate-list-cohort-2 : tie.Need-slice-aggregate-list-cohort-2
-slice-aggregate-list-cohort-2 c = sym (length-take-le (rowBytes * values (c .before .before) .subjects) (left (c .before .before) .table) (omega (arith, subjects-few (c .before .before), long (c .before .before) .table)))
+slice-aggregate-list-read-2 : tie.Need-slice-aggregate-list-read-2
+slice-aggregate-list-read-2 c =
+    let d = c .before .before in
+    sym (length-take-le (rowBytes * values d .subjects) (after d .table) (omega (arith, subjects-few d, long d .table)))
 
-cast-list-cohort : tie.Need-cast-list-cohort
-cast-list-cohort c = search needs
+array-share-prefix-ids : tie.Need-array-share-prefix-ids
+array-share-prefix-ids c =
+    let d = c .before .before in
+    omega (arith, students-few d, long d .ids)
 
-slice-aggregate-list-cohort-3 : tie.Need-slice-aggregate-list-cohort-3
-slice-aggregate-list-cohort-3 c = sym (long (c .before .before .before) .figures)
+slice-aggregate-list-read-3 : tie.Need-slice-aggregate-list-read-3
+slice-aggregate-list-read-3 c =
+    let d = c .before .before .before in
+    sym (length-take-le (values d .students) (after d .ids) (omega (arith, students-few d, long d .ids)))
 
-slice-aggregate-list-cohort-4 : tie.Need-slice-aggregate-list-cohort-4
-slice-aggregate-list-cohort-4 c = sym (long (c .before .before .before .before) .ids)
+array-share-prefix-counts : tie.Need-array-share-prefix-counts
+array-share-prefix-counts c =
+    let d = c .before .before .before in
+    omega (arith, students-few d, long d .counts)
 
-slice-aggregate-list-cohort-5 : tie.Need-slice-aggregate-list-cohort-5
-slice-aggregate-list-cohort-5 c = sym (long (c .before .before .before .before .before) .counts)
+slice-aggregate-list-read-4 : tie.Need-slice-aggregate-list-read-4
+slice-aggregate-list-read-4 c =
+    let d = c .before .before .before .before in
+    sym (length-take-le (values d .students) (after d .counts) (omega (arith, students-few d, long d .counts)))
 
-slice-aggregate-list-cohort-6 : tie.Need-slice-aggregate-list-cohort-6
-slice-aggregate-list-cohort-6 c = sym (long (c .before .before .before .before .before .before) .results)
+slice-aggregate-list-read-5 : tie.Need-slice-aggregate-list-read-5
+slice-aggregate-list-read-5 c = sym (long (c .before .before .before .before .before) .results)
 
-list-cohort-requires : tie.Need-list-cohort-requires
-list-cohort-requires c κs =
-    let d = c .before .before .before .before .before .before .before in
-    (few _ zeros (left d) (values d) zeros-lent (told d), enough _ zeros (left d) (values d) zeros-lent (told d), populated _ zeros (left d) (values d) zeros-lent (told d), c .before .before .before .before .before .before .before .before .before .before .before .before .before .before .before .before .before .before .before .pre)
+list-read-requires : tie.Need-list-read-requires
+list-read-requires c κs =
+    let d = c .before .before .before .before .before .before in
+    ready _ zeros (after d) (values d) zeros-sized (told d) (begun (d .before .before .before) .args .text .now) (begun (d .before .before .before) .pre)
 
 same-length : tie.Need-same-length
 same-length c = search needs
 
 returns : tie.Need-returns
 returns c =
-    let l = c .before .before .before .before .before .before .before .before .read .last in
-    subst (Put (c .before .before .before .before .before .before .before .before .before .before .before .before .before .before .before .before .before .args .text .now) (c .before .before .append .last .0) 0 (c .before .before .append .result))
-    (c .before .before .before .file-line .ensures .same ∙ refused-text (c .before .before .before .before .before .before .before .before .before .before .before .before .before .before .before .before .before .args .file .now) zeros (c .before .before .before .before .before .before .before .before .read .result) (buffers (l .1 .0) (l .1 .1 .0) (l .1 .1 .1 .0) (l .1 .1 .1 .1 .0) (l .1 .1 .1 .1 .1 .0) (l .1 .1 .1 .1 .1 .1 .0)) _ (c .before .before .before .before .before .before .read2 .given .1) (c .before .before .before .before .before .before .before .before .read .ensures))
-    (c .before .before .append .ensures)
+    let d = c .before .before .before .before .before .before .before .before in
+    let a = begun d .args in
+    subst (Put (a .text .now) (c .before .before .append .last .0) 0 (c .before .before .append .result))
+    (c .before .before .before .file-line .ensures .same ∙ refused-text (a .file .now) zeros (d .read .result) (left d) _ (c .before .before .before .before .before .before .read2 .given .1) (d .read .ensures)) (c .before .before .append .ensures)
 
 same-length-2 : tie.Need-same-length-2
 same-length-2 c = search needs
 
 returns-2 : tie.Need-returns-2
 returns-2 c =
-    let d = c .before .before .before .before .before .before .before .before .before .before in
-    subst (Put (c .before .before .before .before .before .before .before .before .before .before .before .before .before .before .before .before .before .before .before .before .before .before .args .text .now) (c .before .before .list-cohort .last .1 .1 .1 .1 .1 .1 .1 .1 .1 .0) 0 (c .before .before .list-cohort .result)) (accepted-text _ zeros (left d) (values d) zeros-lent (told d)) (c .before .before .list-cohort .ensures)
+    let d = c .before .before .before .before .before .before .before .before .before in
+    subst (Put (begun (d .before .before .before) .args .text .now) (c .before .before .list-read .last .1 .1 .1 .1 .1 .1 .0) 0 (c .before .before .list-read .result)) (accepted-text _ zeros (after d) (values d) zeros-sized (told d)) (c .before .before .list-read .ensures)
 
 pub list-file-spec : {M : Type 1} → statement M
 list-file-spec =
@@ -117,15 +135,15 @@ list-file-spec =
     mul-c
     mul-t
     array-share-prefix-catalogue
-    slice-aggregate-list-cohort
+    slice-aggregate-list-read
     array-share-prefix-table
-    slice-aggregate-list-cohort-2
-    cast-list-cohort
-    slice-aggregate-list-cohort-3
-    slice-aggregate-list-cohort-4
-    slice-aggregate-list-cohort-5
-    slice-aggregate-list-cohort-6
-    list-cohort-requires
+    slice-aggregate-list-read-2
+    array-share-prefix-ids
+    slice-aggregate-list-read-3
+    array-share-prefix-counts
+    slice-aggregate-list-read-4
+    slice-aggregate-list-read-5
+    list-read-requires
     same-length
     returns
     same-length-2

@@ -1,80 +1,92 @@
-use Rattle.paper.specs.Limits.{resultBytes, mostResults}
-use Rattle.report.proofs.Lining.{Far, far-none, far-all, far-inside, far-mark, far-most, far-within, far-more}
-use native.Mathlib.Omega.{arith}
-use Prim.Native.Nat.{ℕ, _+_, _*_, _-_, _≤_}
-use mathlib.Core.Path.{_≡_, refl, sym, subst, _∙_}
-use mathlib.Core.List.{List, [], _++_}
-use lib.ListN.{length}
-use Rattle.listing.specs.Lines.{lineBytes, shown}
-use Rattle.report.specs.Inner.{columns, Put}
 use Rattle.report.proofs.Puts.{put-none, put-more, shows-own, shown-short}
+use Rattle.report.proofs.Lining.{Far, far-none, far-all, far-more, after-most, one-more, none-more}
+use Rattle.report.specs.Inner.{columns, afterKept, Put}
+use Rattle.listing.specs.Lines.{lineBytes, shown}
+use lib.ListN.{length, getD}
+use mathlib.Core.List.{List, [], _++_}
+use mathlib.Core.Logic.{⊎-elim}
+use mathlib.Core.Path.{_≡_, refl, sym, ap, subst, _∙_}
+use Prim.Native.Nat.{ℕ, _+_, _*_, _-_, _≤_}
+use native.Mathlib.Omega.{arith}
 use borrow.Author.Needs.{needs}
 use Rattle.report.proofs.lines.lines.Statement.{statement}
 use Rattle.report.proofs.lines.lines.Tie as tie
-use Rattle.report.proofs.lines.line_at.Reads as line-at-reads
+use Rattle.report.proofs.lines.line_of.Reads as line-of-reads
 use Rattle.report.proofs.writing.append.Reads as append-reads
 
--- the first i students are listed, j of them eligible; their results end at a place, their lines at an end
+-- the first i students are listed, j of them eligible, and their lines end at an end
 abbrev Inv-loop : tie.InvT-loop
-Inv-loop catalogue table year students ids counts results marks aggregates ranks percentiles bands text₀ start i₀ place₀ j₀ end₀ text i place j end =
-    (i ≤ students) × (place ≤ mostResults * resultBytes * i) × (end ≤ start + lineBytes * i) × (j ≤ i) × (length text ≡ length text₀)
-    × (sofar : List ℕ) × Put text₀ text start end sofar × Far catalogue table year students ids counts results marks (columns aggregates ranks percentiles bands) i place j sofar
+Inv-loop ids numbers places aggregates text₀ start placed i₀ j₀ end₀ text i j end =
+    (i ≤ length ids) × (end ≤ start + lineBytes * i) × (j ≤ i) × (length text ≡ length text₀)
+    × (sofar : List ℕ) × Put text₀ text start end sofar × Far (columns aggregates placed) ids numbers places i j sofar
 
 abbrev μ-loop : tie.MeasureT-loop
-μ-loop catalogue table year students ids counts results marks aggregates ranks percentiles bands text₀ start i₀ place₀ j₀ end₀ text i place j end = students - i
+μ-loop ids numbers places aggregates text₀ start placed i₀ j₀ end₀ text i j end = length ids - i
+
+abbrev begun : tie.At-loop Inv-loop μ-loop → tie.Start Inv-loop μ-loop
+begun l = l .before .before .before .before .before
+
+abbrev turn : tie.Joined1 Inv-loop μ-loop → tie.At-loop Inv-loop μ-loop
+turn c = c .before .before .before .before .before .before .before .before .before .before .before .before .before .before
+
+counted : (c : tie.Joined1 Inv-loop μ-loop) → c .if1 .j ≡ afterKept (turn c .loop .j) (getD (begun (turn c) .args .numbers .now) (turn c .loop .i) 0)
+counted c = ⊎-elim (λ w. one-more _ _ _ (w .0 .taken) (w .1)) (λ w. none-more _ _ _ (w .0 .left) (w .1)) (c .if1 .came)
 
 loop-holds : tie.Need-loop-holds Inv-loop μ-loop
 loop-holds c =
-    let a = c .before .before .before .before .before .before .before .before .before .before .before .args in
-    let p = c .before .before .before .before .before .before .before .before .before .before .before .pre in (
-      omega arith,
-      omega arith,
-      omega arith,
-      omega arith,
-      refl,
-      [],
-      put-none (a .text .now) (a .start) (omega (arith, p .4)),
-      far-none (a .catalogue .now) (a .table .now) (a .year) (a .students) (a .ids .now) (a .counts .now) (a .results .now) (a .marks .now) (columns (a .aggregates .now) (a .ranks .now) (a .percentiles .now) (a .bands .now)) (p .3),
-    )
+    let a = c .before .before .before .before .args in
+    let p = c .before .before .before .before .pre in
+    (omega arith, omega arith, omega arith, refl, [], put-none (a .text .now) (a .start) (omega (arith, p .room)), far-none (columns (a .aggregates .now) (a .t5)) (a .ids .now) (a .numbers .now) (a .places .now))
 
-shared-slice-read-count : tie.Need-shared-slice-read-count Inv-loop μ-loop
-shared-slice-read-count c = let w = c .before .before .before .before .before .before .before .before .before .before .before .before .before .before .pre .0 .counted in search needs
+shared-slice-read-number : tie.Need-shared-slice-read-number Inv-loop μ-loop
+shared-slice-read-number c = omega (arith, begun (c .before .before) .pre .numbers-long)
 
-cast-count : tie.Need-cast-count Inv-loop μ-loop
-cast-count c = let few = c .before .before .before .before .before .before .before .before .before .before .before .before .before .before .pre .0 .each (c .before .before .loop .i) (c .before .loop-test .taken) in search needs
+mul-line-of : tie.Need-mul-line-of Inv-loop μ-loop
+mul-line-of c = search needs
 
-shared-slice-read-mark : tie.Need-shared-slice-read-mark Inv-loop μ-loop
-shared-slice-read-mark c = let w = far-inside (c .before .before .before .loop .inv .7) (c .before .before .loop-test .taken) in search needs
+shared-slice-read-line-of : tie.Need-shared-slice-read-line-of Inv-loop μ-loop
+shared-slice-read-line-of c = search needs
 
-mul-line-at : tie.Need-mul-line-at Inv-loop μ-loop
-mul-line-at c = search needs
+mul-line-of-2 : tie.Need-mul-line-of-2 Inv-loop μ-loop
+mul-line-of-2 c = search needs
 
-shared-slice-read-line-at : tie.Need-shared-slice-read-line-at Inv-loop μ-loop
-shared-slice-read-line-at c = search needs
+shared-slice-read-line-of-2 : tie.Need-shared-slice-read-line-of-2 Inv-loop μ-loop
+shared-slice-read-line-of-2 c = search needs
 
-line-at-requires : tie.Need-line-at-requires Inv-loop μ-loop
-line-at-requires c κs =
-    let l = c .before .before .before .before .loop in (
-      omega (arith, c .before .before .before .before .before .before .before .before .before .before .before .before .before .before .before .before .pre .0 .each (l .i) (c .before .before .before .loop-test .taken), c .before .before .before .before .before .before .before .before .before .before .before .before .before .before .before .before .pre .0 .bytes),
-      far-mark (l .inv .7) (c .before .before .before .loop-test .taken),
-      c .before .before .before .before .before .before .before .before .before .before .before .before .before .before .before .before .pre .2,
-      far-within (l .inv .7) (c .before .before .before .loop-test .taken),
-    )
+mul-line-of-3 : tie.Need-mul-line-of-3 Inv-loop μ-loop
+mul-line-of-3 c = search needs
+
+element-copy-out-line-of : tie.Need-element-copy-out-line-of Inv-loop μ-loop
+element-copy-out-line-of c = search needs
+
+mul-line-of-4 : tie.Need-mul-line-of-4 Inv-loop μ-loop
+mul-line-of-4 c = search needs
+
+element-copy-out-line-of-2 : tie.Need-element-copy-out-line-of-2 Inv-loop μ-loop
+element-copy-out-line-of-2 c = search needs
+
+mul-line-of-5 : tie.Need-mul-line-of-5 Inv-loop μ-loop
+mul-line-of-5 c = search needs
+
+element-copy-out-line-of-3 : tie.Need-element-copy-out-line-of-3 Inv-loop μ-loop
+element-copy-out-line-of-3 c = search needs
+
+mul-line-of-6 : tie.Need-mul-line-of-6 Inv-loop μ-loop
+mul-line-of-6 c = search needs
+
+element-copy-out-line-of-4 : tie.Need-element-copy-out-line-of-4 Inv-loop μ-loop
+element-copy-out-line-of-4 c = search needs
+
+line-of-requires : tie.Need-line-of-requires Inv-loop μ-loop
+line-of-requires c κs = search needs
 
 append-requires : tie.Need-append-requires Inv-loop μ-loop
-append-requires c κs = (shows-own (c .before .line-at .ensures), omega (arith, c .before .before .before .before .before .before .before .before .before .before .before .before .before .before .before .before .before .before .pre .4, c .before .before .before .before .before .before .loop .inv .4))
-
-cast-j : tie.Need-cast-j Inv-loop μ-loop
-cast-j c = let w = far-most (c .before .before .before .before .before .before .before .before .before .loop .inv .7) (c .before .before .before .before .before .before .before .before .loop-test .taken) in search needs
+append-requires c κs =
+    let l = c .before .before .before .before .before .before .before .before .before .before in
+    (shows-own (c .before .line-of .ensures), omega (arith, begun l .pre .room, l .loop .inv .3))
 
 add-j : tie.Need-add-j Inv-loop μ-loop
-add-j c = let w = far-most (c .before .before .before .before .before .before .before .before .before .loop .inv .7) (c .before .before .before .before .before .before .before .before .loop-test .taken) in search needs
-
-mul-place : tie.Need-mul-place Inv-loop μ-loop
-mul-place c = let few = c .before .before .before .before .before .before .before .before .before .before .before .before .before .before .before .before .before .before .before .before .before .pre .0 .each (c .before .before .before .before .before .before .before .before .before .loop .i) (c .before .before .before .before .before .before .before .before .loop-test .taken) in search needs
-
-add-place : tie.Need-add-place Inv-loop μ-loop
-add-place c = let few = c .before .before .before .before .before .before .before .before .before .before .before .before .before .before .before .before .before .before .before .before .before .pre .0 .each (c .before .before .before .before .before .before .before .before .before .loop .i) (c .before .before .before .before .before .before .before .before .loop-test .taken) in search needs
+add-j c = search needs
 
 add-i : tie.Need-add-i Inv-loop μ-loop
 add-i c = search needs
@@ -84,21 +96,19 @@ loop-less c = search needs
 
 loop-again : tie.Need-loop-again Inv-loop μ-loop
 loop-again c =
-    let a = c .before .before .before .before .before .before .before .before .before .before .before .before .before .before .before .before .before .before .before .before .before .args in
-    let p = c .before .before .before .before .before .before .before .before .before .before .before .before .before .before .before .before .before .before .before .before .before .pre in
-    let l = c .before .before .before .before .before .before .before .before .before .loop in
-    let few = p .0 .each (l .i) (c .before .before .before .before .before .before .before .before .loop-test .taken) in
-    let s = c .before .before .before .before .line-at .ensures in
-    let q = c .before .before .append .ensures in
-    let t = shown-short s in (
+    let a = begun (turn c) .args in
+    let p = begun (turn c) .pre in
+    let l = turn c .loop in
+    let line = c .before .before .before .before .before .line-of in
+    let put = c .before .before .before .append in
+    let short = shown-short (line .ensures) in (
       omega arith,
-      omega (arith, few),
-      omega (arith, q .ends),
-      omega (arith, far-most (l .inv .7) (c .before .before .before .before .before .before .before .before .loop-test .taken)),
-      c .before .before .append .kept .0 ∙ l .inv .4,
-      l .inv .5 ++ shown (c .before .before .before .before .line-at .result),
-      put-more (a .text .now) (l .text) (c .before .before .append .last .0) (a .start) (l .end) (c .before .before .append .result) (l .inv .5) (shown (c .before .before .before .before .line-at .result)) (l .inv .6) q (omega (arith, p .4)),
-      far-more (l .inv .7) (shown (c .before .before .before .before .line-at .result)) (c .before .before .before .before .before .before .before .before .loop-test .taken) (s .same),
+      omega (arith, put .ensures .ends),
+      omega (arith, counted c, after-most (l .j) (getD (a .numbers .now) (l .i) 0)),
+      put .kept .0 ∙ l .inv .3,
+      l .inv .4 ++ shown (line .result),
+      put-more (a .text .now) (l .text) (put .last .0) (a .start) (l .end) (put .result) (l .inv .4) (shown (line .result)) (l .inv .5) (put .ensures) (omega (arith, p .room)),
+      far-more (l .inv .6) (shown (line .result)) (c .if1 .j) (omega (arith, p .numbers-long)) (line .ensures .same) (counted c),
     )
 
 same-length : tie.Need-same-length Inv-loop μ-loop
@@ -106,9 +116,8 @@ same-length c = search needs
 
 returns : tie.Need-returns Inv-loop μ-loop
 returns c =
-    let a = c .before .before .before .before .before .before .before .before .before .before .before .before .before .args in
     let l = c .before .loop in
-    subst (Put (a .text .now) (l .text) (a .start) (l .end)) (sym (far-all (l .inv .7) (omega arith))) (l .inv .6)
+    subst (Put (c .before .before .before .before .before .before .args .text .now) (l .text) (c .before .before .before .before .before .before .args .start) (l .end)) (sym (far-all (l .inv .6) (omega (arith, c .before .before .before .before .before .before .pre .numbers-long)))) (l .inv .5)
 
 pub lines-spec : {M : Type 1} → statement M
 lines-spec =
@@ -117,17 +126,22 @@ lines-spec =
     Inv-loop
     μ-loop
     loop-holds
-    shared-slice-read-count
-    cast-count
-    shared-slice-read-mark
-    mul-line-at
-    shared-slice-read-line-at
-    line-at-requires
+    shared-slice-read-number
+    mul-line-of
+    shared-slice-read-line-of
+    mul-line-of-2
+    shared-slice-read-line-of-2
+    mul-line-of-3
+    element-copy-out-line-of
+    mul-line-of-4
+    element-copy-out-line-of-2
+    mul-line-of-5
+    element-copy-out-line-of-3
+    mul-line-of-6
+    element-copy-out-line-of-4
+    line-of-requires
     append-requires
-    cast-j
     add-j
-    mul-place
-    add-place
     add-i
     loop-less
     loop-again

@@ -1,10 +1,10 @@
-use Rattle.paper.specs.Limits.{resultBytes}
-use Rattle.bestset.proofs.Meeting.{said-only}
-use Rattle.results.specs.Results.{student}
-use lib.ListN.{take, drop}
-use mathlib.Core.Path.{_≡_}
-use Prim.Native.Nat.{_+_, _*_, _-_}
 use native.Mathlib.Omega.{arith}
+use Prim.Native.Nat.{_+_, _*_, _-_}
+use mathlib.Core.Path.{_≡_}
+use lib.ListN.{take, drop}
+use Rattle.results.specs.Results.{student}
+use Rattle.bestset.proofs.Meeting.{said-only}
+use Rattle.paper.specs.Limits.{resultBytes}
 use borrow.Author.Needs.{needs}
 use Rattle.report.proofs.students.best_at.Statement.{statement}
 use Rattle.report.proofs.students.best_at.Tie as tie

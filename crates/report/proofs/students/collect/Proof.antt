@@ -1,64 +1,74 @@
-use native.Mathlib.Omega.{arith}
-use Prim.Native.Nat.{_*_, _-_, _≤_}
-use mathlib.Core.Path.{_≡_, ap, _∙_}
-use lib.ListN.{length, length-set}
-use Rattle.paper.specs.Limits.{resultBytes, mostResults, mostStudents}
+use Rattle.report.proofs.Collecting.{Gathered, gathered-none, gathered-all, gathered-more, after-most, joined-long}
 use Rattle.bestset.specs.Promise.{said}
-use Rattle.report.proofs.Collecting.{Gathered, gathered-none, gathered-all, gathered-more, mark-most, kept-long}
+use Rattle.paper.specs.Limits.{resultBytes, mostResults, mostStudents}
+use lib.ListN.{length, length-set}
+use mathlib.Core.Path.{_≡_, ap, _∙_}
+use Prim.Native.Nat.{_*_, _-_, _≤_}
+use native.Mathlib.Omega.{arith}
 use borrow.Author.Needs.{needs}
 use Rattle.report.proofs.students.collect.Statement.{statement}
 use Rattle.report.proofs.students.collect.Tie as tie
 use Rattle.report.proofs.students.best_at.Reads as best-at-reads
-use Rattle.report.proofs.students.keep.Reads as keep-reads
-use Rattle.report.proofs.students.mark_of.Reads as mark-of-reads
+use Rattle.report.proofs.students.join.Reads as join-reads
+use Rattle.report.proofs.students.number_in.Reads as number-in-reads
+use Rattle.report.proofs.students.place_in.Reads as place-in-reads
 
--- the first i students are collected, and their results end at a place
+-- what is told of the first i students is kept, and their results end at a place
 abbrev Inv-loop : tie.InvT-loop
-Inv-loop catalogue table year students counts results aggregates₀ marks₀ i₀ place₀ eligible₀ aggregates marks i place eligible =
-    (i ≤ students) × (place ≤ mostResults * resultBytes * i) × (eligible ≤ i) × (length aggregates ≡ mostStudents) × (length marks ≡ mostStudents)
-    × Gathered catalogue table year students counts results i place aggregates eligible marks
+Inv-loop catalogue table year counts results aggregates₀ numbers₀ places₀ i₀ place₀ eligible₀ aggregates numbers places i place eligible =
+    (i ≤ length counts) × (place ≤ mostResults * resultBytes * i) × (eligible ≤ i) × (length aggregates ≡ mostStudents) × (length numbers ≡ length counts) × (length places ≡ length counts)
+    × Gathered catalogue table year (length counts) counts results i place aggregates eligible numbers places
 
 abbrev μ-loop : tie.MeasureT-loop
-μ-loop catalogue table year students counts results aggregates₀ marks₀ i₀ place₀ eligible₀ aggregates marks i place eligible = students - i
+μ-loop catalogue table year counts results aggregates₀ numbers₀ places₀ i₀ place₀ eligible₀ aggregates numbers places i place eligible = length counts - i
+
+abbrev start : tie.At-loop Inv-loop μ-loop → tie.Start Inv-loop μ-loop
+start l = l .before .before .before .before .before .before .before .before
+
+abbrev turn : tie.After-place-in Inv-loop μ-loop → tie.At-loop Inv-loop μ-loop
+turn c = c .before .before .before .before .before .before .before .before .before
 
 loop-holds : tie.Need-loop-holds Inv-loop μ-loop
-loop-holds c = let a = c .before .before .before .before .before .before .args in (omega arith, omega arith, omega arith, c .before .before .before .before .before .before .pre .1, c .before .before .before .before .before .before .pre .2, gathered-none (a .catalogue .now) (a .table .now) (a .year) (a .students) (a .counts .now) (a .results .now) (a .aggregates .now) (a .marks .now))
+loop-holds c =
+    let s = c .before .before .before .before .before .before .before in
+    let a = s .args in
+    let p = s .pre in
+    (omega arith, omega arith, omega arith, p .aggregates-long, p .numbers-long, p .places-long, gathered-none (a .catalogue .now) (a .table .now) (a .year) (length (a .counts .now)) (a .counts .now) (a .results .now) (a .aggregates .now) (a .numbers .now) (a .places .now))
 
 shared-slice-read-count : tie.Need-shared-slice-read-count Inv-loop μ-loop
-shared-slice-read-count c = let w = c .before .before .before .before .before .before .before .before .before .pre .0 .counted in search needs
+shared-slice-read-count c = search needs
 
 cast-count : tie.Need-cast-count Inv-loop μ-loop
-cast-count c = let few = c .before .before .before .before .before .before .before .before .before .pre .0 .each (c .before .before .loop .i) (c .before .loop-test .taken) in search needs
+cast-count c = let few = start (c .before .before) .pre .few .each (c .before .before .loop .i) (c .before .loop-test .taken) in search needs
 
 best-at-requires : tie.Need-best-at-requires Inv-loop μ-loop
-best-at-requires c κs = omega (arith, c .before .before .before .before .before .before .before .before .before .pre .0 .each (c .before .before .loop .i) (c .before .loop-test .taken))
+best-at-requires c κs = omega (arith, start (c .before .before) .pre .few .each (c .before .before .loop .i) (c .before .loop-test .taken), start (c .before .before) .pre .few .bytes, start (c .before .before) .pre .few .students)
 
-keep-requires : tie.Need-keep-requires Inv-loop μ-loop
-keep-requires c κs = search needs
+join-requires : tie.Need-join-requires Inv-loop μ-loop
+join-requires c κs = omega (arith, start (c .before .before .before .before) .pre .few .students)
 
-mark-of-requires : tie.Need-mark-of-requires Inv-loop μ-loop
-mark-of-requires c κs = search needs
+number-in-requires : tie.Need-number-in-requires Inv-loop μ-loop
+number-in-requires c κs = search needs
 
-slice-write-marks : tie.Need-slice-write-marks Inv-loop μ-loop
-slice-write-marks c = search needs
+slice-write-numbers : tie.Need-slice-write-numbers Inv-loop μ-loop
+slice-write-numbers c = search needs
 
-cast-eligible : tie.Need-cast-eligible Inv-loop μ-loop
-cast-eligible c =
-    let w = mark-most (said (c .before .before .before .before .before .best-at .result)) in
-    let e = c .mark-of .ensures in
-    search needs
+place-in-requires : tie.Need-place-in-requires Inv-loop μ-loop
+place-in-requires c κs = search needs
 
-add-eligible : tie.Need-add-eligible Inv-loop μ-loop
-add-eligible c =
-    let w = mark-most (said (c .before .before .before .before .before .best-at .result)) in
-    let e = c .mark-of .ensures in
-    search needs
+mul-places : tie.Need-mul-places Inv-loop μ-loop
+mul-places c = search needs
+
+slice-write-places : tie.Need-slice-write-places Inv-loop μ-loop
+slice-write-places c = search needs
 
 mul-place : tie.Need-mul-place Inv-loop μ-loop
-mul-place c = let few = c .before .before .before .before .before .before .before .before .before .before .before .before .before .before .before .pre .0 .each (c .before .before .before .before .before .before .before .before .loop .i) (c .before .before .before .before .before .before .before .loop-test .taken) in search needs
+mul-place c = let few = start (turn c) .pre .few .each (turn c .loop .i) (c .before .before .before .before .before .before .before .before .loop-test .taken) in search needs
 
 add-place : tie.Need-add-place Inv-loop μ-loop
-add-place c = let few = c .before .before .before .before .before .before .before .before .before .before .before .before .before .before .before .pre .0 .each (c .before .before .before .before .before .before .before .before .loop .i) (c .before .before .before .before .before .before .before .loop-test .taken) in search needs
+add-place c =
+    let few = start (turn c) .pre .few .each (turn c .loop .i) (c .before .before .before .before .before .before .before .before .loop-test .taken) in
+    let most = start (turn c) .pre .few .students in search needs
 
 add-i : tie.Need-add-i Inv-loop μ-loop
 add-i c = search needs
@@ -68,16 +78,17 @@ loop-less c = search needs
 
 loop-again : tie.Need-loop-again Inv-loop μ-loop
 loop-again c =
-    let p = c .before .before .before .before .before .before .before .before .before .before .before .before .before .before .before .pre .0 in
-    let l = c .before .before .before .before .before .before .before .before .loop in
-    let few = p .each (l .i) (c .before .before .before .before .before .before .before .loop-test .taken) in
-    let o = said (c .before .before .before .before .before .best-at .result) in (
+    let p = start (turn c) .pre in
+    let l = turn c .loop in
+    let o = said (c .before .before .before .before .before .before .best-at .result) in
+    let few = p .few .each (l .i) (c .before .before .before .before .before .before .before .before .loop-test .taken) in (
       omega arith,
       omega (arith, few),
-      omega (arith, mark-most o, c .mark-of .ensures),
-      ap length (c .before .before .before .keep .ensures) ∙ kept-long o (l .aggregates) (l .eligible) ∙ l .inv .3,
-      length-set (l .marks) (l .i) (c .mark-of .result) ∙ l .inv .4,
-      gathered-more (l .inv .5) o (c .before .before .before .keep .last .1 .1 .0) (c .mark-of .result) (c .before .before .before .before .before .before .before .loop-test .taken) (omega (arith, p .students, l .inv .3)) (omega (arith, p .students, l .inv .4)) (c .before .before .before .before .before .best-at .ensures) (c .before .before .before .keep .ensures) (c .mark-of .ensures),
+      omega (arith, c .before .before .before .before .join .ensures .1, after-most (l .eligible) o),
+      ap length (c .before .before .before .before .join .ensures .0) ∙ joined-long o (l .aggregates) (l .eligible) ∙ l .inv .3,
+      length-set (l .numbers) (l .i) (c .before .number-in .result) ∙ l .inv .4,
+      length-set (l .places) (l .i) (c .place-in .result) ∙ l .inv .5,
+      gathered-more (l .inv .6) o (c .before .before .before .before .join .last .1 .1 .0) (c .before .before .before .before .join .result) (c .before .number-in .result) (c .place-in .result) (c .before .before .before .before .before .before .before .before .loop-test .taken) (omega (arith, p .few .students, l .inv .3)) (omega (arith, l .inv .4)) (omega (arith, l .inv .5)) (c .before .before .before .before .before .before .best-at .ensures) (c .before .before .before .before .join .ensures .0) (c .before .before .before .before .join .ensures .1) (c .before .number-in .ensures) (c .place-in .ensures),
     )
 
 same-length : tie.Need-same-length Inv-loop μ-loop
@@ -86,10 +97,13 @@ same-length c = search needs
 same-length-2 : tie.Need-same-length-2 Inv-loop μ-loop
 same-length-2 c = search needs
 
+same-length-3 : tie.Need-same-length-3 Inv-loop μ-loop
+same-length-3 c = search needs
+
 returns : tie.Need-returns Inv-loop μ-loop
 returns c =
     let l = c .before .loop in
-    record { long = l .inv .3; marks-long = l .inv .4; within = omega arith; are = gathered-all (l .inv .5) (omega arith) }
+    record { long = l .inv .3; numbers-long = l .inv .4; places-long = l .inv .5; within = omega arith; are = gathered-all (l .inv .6) (omega arith) (l .inv .4) (l .inv .5) }
 
 pub collect-spec : {M : Type 1} → statement M
 collect-spec =
@@ -101,11 +115,12 @@ collect-spec =
     shared-slice-read-count
     cast-count
     best-at-requires
-    keep-requires
-    mark-of-requires
-    slice-write-marks
-    cast-eligible
-    add-eligible
+    join-requires
+    number-in-requires
+    slice-write-numbers
+    place-in-requires
+    mul-places
+    slice-write-places
     mul-place
     add-place
     add-i
@@ -113,4 +128,5 @@ collect-spec =
     loop-again
     same-length
     same-length-2
+    same-length-3
     returns)

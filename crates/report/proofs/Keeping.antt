@@ -1,0 +1,139 @@
+-- The lines of what is kept are those of the students.
+use Prim.Native.Nat.{ℕ, zero, suc, _+_, _*_, _≤_, _<_}
+use native.Mathlib.Omega.{arith}
+use mathlib.Core.Path.{_≡_, refl, sym, ap, subst, _∙_}
+use mathlib.Core.Bool.{Bool, true, false}
+use mathlib.Core.List.{List, [], _∷_, _++_}
+use lib.ListN.{length, getD, take, drop}
+use lib.Seq.{getD-take}
+use lib.Dec.{eqb}
+use borrow.Author.Tests.{ne-eqb, eqb-true}
+use Rattle.paper.specs.Limits.{resultBytes}
+use Rattle.paper.specs.Lists.{pick}
+use Rattle.paper.specs.Refusals.{fault, refusal}
+use Rattle.paper.specs.Rulings.{Outcome, accepted, refused, numberOf}
+use Rattle.paper.proofs.Ruled.{Refusing}
+use Rattle.paper.specs.declared.refusal.Refusal.{Refusal}
+use Rattle.paper.specs.declared.refusal.Refusal.the-variants.{Malformed, TooMany, WrongSubject, WrongResult, WrongScore, Again, NoEnglish, NoSet, WrongPopulation, WrongRate, WrongLength, WrongAggregate, WrongEntry, WrongYear}
+use Rattle.results.specs.Results.{student}
+use Rattle.bestset.specs.Promise.{Values}
+use Rattle.bestset.proofs.Meeting.{computed-tabled}
+use Rattle.bands.specs.Placing.{remainder}
+use Rattle.listing.specs.Lines.{cohortLine, studentLine, refusedLine}
+use Rattle.cohort.specs.Held.{Enrolled, idsOf}
+use Rattle.report.specs.Report.{Columns, columnsOf, outcome, withAggregate, aggregatesOf, lineOf, afterOne, linesOf, listed}
+use Rattle.report.specs.Inner.{studentsIn, numberIn, placeIn, numbersOf, placesOf, Kept, lineKept, afterKept, linesKept, eligibleKept, columns, Places, listedKept}
+use Rattle.report.specs.declared.placing.Placed.{Placed}
+use Rattle.report.proofs.Lining.{eligible-least}
+
+-- no refusal has the number 0
+not-0 : (x : Refusal) → numberOf (fault x) ≡ 0 → ⊥
+not-0 (Malformed place) e = omega arith
+not-0 (TooMany place) e = omega arith
+not-0 (WrongSubject place) e = omega arith
+not-0 (WrongResult place) e = omega arith
+not-0 (WrongScore place) e = omega arith
+not-0 (Again place) e = omega arith
+not-0 NoEnglish e = omega arith
+not-0 NoSet e = omega arith
+not-0 (WrongPopulation place) e = omega arith
+not-0 (WrongRate place) e = omega arith
+not-0 WrongLength e = omega arith
+not-0 (WrongAggregate place) e = omega arith
+not-0 (WrongEntry place) e = omega arith
+not-0 (WrongYear place) e = omega arith
+
+-- what is kept of a student tells its line and whether it is eligible
+line-told : (c : Columns) (j id : ℕ) (o : Outcome Values) → Refusing o → lineKept c j id (numberIn o) (placeIn o) ≡ lineOf c j id o
+line-told c j id (accepted v) h = refl
+line-told c j id (refused f) h = rw (ne-eqb (numberOf f) 0 (λ e. not-0 (refusal f) (ap numberOf h ∙ e))) refl
+
+after-told : (j : ℕ) (o : Outcome Values) → Refusing o → afterKept j (numberIn o) ≡ afterOne j o
+after-told j (accepted v) h = refl
+after-told j (refused f) h = rw (ne-eqb (numberOf f) 0 (λ e. not-0 (refusal f) (ap numberOf h ∙ e))) refl
+
+module _ (out : Enrolled → Outcome Values) (tabled : (s : Enrolled) → Refusing (out s)) where
+  lines-told : (c : Columns) (j : ℕ) (ss : List Enrolled) → linesKept c j (idsOf ss) (numbersOf out ss) (placesOf out ss) ≡ linesOf out c j ss
+  unfolding linesKept linesOf
+  lines-told c j [] = refl
+  lines-told c j (s ∷ ss) =
+      rw (line-told c j (s .id) (out s) (tabled s), after-told j (out s) (tabled s)) (ap (λ (t : List ℕ). lineOf c j (s .id) (out s) ++ t) (lines-told c (afterOne j (out s)) ss))
+
+  eligible-told : (j : ℕ) (ss : List Enrolled) → eligibleKept j (numbersOf out ss) ≡ j + length (aggregatesOf out ss)
+  unfolding eligibleKept aggregatesOf
+  eligible-told j [] = omega arith
+  eligible-told j (s ∷ ss) = ap (λ (k : ℕ). eligibleKept k (numbersOf out ss)) (after-told j (out s) (tabled s)) ∙ go (out s) (λ k. eligible-told k ss)
+    where
+      go : (o : Outcome Values) → ((k : ℕ) → eligibleKept k (numbersOf out ss) ≡ k + length (aggregatesOf out ss))
+          → eligibleKept (afterOne j o) (numbersOf out ss) ≡ j + length (withAggregate o (aggregatesOf out ss))
+      go (accepted v) r = omega (arith, r (suc j))
+      go (refused f) r = r j
+
+-- only the eligible are read of the columns
+same-line : (c d : Columns) (j id number place : ℕ) → (number ≡ 0 → lineKept c j id 0 place ≡ lineKept d j id 0 place) → lineKept c j id number place ≡ lineKept d j id number place
+same-line c d j id number place h = go (eqb number 0) refl
+  where
+    one : Columns → List ℕ
+    one e = studentLine id (getD (e .aggregates) j 0) (getD (e .ranks) j 0) (getD (e .percentiles) j 0) (getD (e .bands) j 0)
+
+    go : (b : Bool) → eqb number 0 ≡ b → pick b (one c) (refusedLine id number place) ≡ pick b (one d) (refusedLine id number place)
+    go true e = h (eqb-true number 0 e)
+    go false e = refl
+
+same-lines : (c d : Columns) (n : ℕ) → ((j id place : ℕ) → j < n → lineKept c j id 0 place ≡ lineKept d j id 0 place)
+    → (j : ℕ) (ids numbers places : List ℕ) → eligibleKept j numbers ≤ n → linesKept c j ids numbers places ≡ linesKept d j ids numbers places
+unfolding linesKept eligibleKept
+same-lines c d n h j ids [] places e = refl
+same-lines c d n h j ids (number ∷ numbers) places e =
+    rw (same-line c d j (getD ids 0 0) number (getD places 0 0) (λ z. h j (getD ids 0 0) (getD places 0 0) (below z)))
+    (ap (λ (t : List ℕ). lineKept d j (getD ids 0 0) number (getD places 0 0) ++ t) (same-lines c d n h (afterKept j number) (drop 1 ids) numbers (drop 1 places) e))
+  where
+    below : number ≡ 0 → j < n
+    below z =
+        let one : afterKept j number ≡ suc j = ap (afterKept j) z in
+        omega (arith, e, eligible-least (afterKept j number) numbers)
+
+-- the ids of the students in buffers, and how many they are
+ids-in : (ids counts results : List ℕ) → idsOf (studentsIn (length ids) ids counts results) ≡ ids
+unfolding studentsIn
+ids-in [] counts results = refl
+ids-in (id ∷ ids) counts results = ap (λ (l : List ℕ). id ∷ l) (ids-in ids (drop 1 counts) (drop (resultBytes * getD counts 0 0) results))
+
+number-in : (n : ℕ) (ids counts results : List ℕ) → length (studentsIn n ids counts results) ≡ n
+unfolding studentsIn
+number-in zero ids counts results = refl
+number-in (suc n) ids counts results = ap suc (number-in n (drop 1 ids) (drop 1 counts) (drop (resultBytes * getD counts 0 0) results))
+
+-- a number of a list's front
+in-front : (n : ℕ) (xs ys : List ℕ) (j : ℕ) → take n xs ≡ ys → j < n → getD xs j 0 ≡ getD ys j 0
+in-front n xs ys j e l = sym (getD-take n xs j 0 l) ∙ ap (λ (l : List ℕ). getD l j 0) e
+
+-- so the listing of what is kept is that of the students
+module _ (catalogue table : List ℕ) (year : ℕ) (shares : List ℕ) (Y : ℕ) (ids counts results : List ℕ) where
+  abbrev out : Enrolled → Outcome Values
+  out = outcome catalogue table year
+
+  abbrev those : List Enrolled
+  those = studentsIn (length counts) ids counts results
+
+  out-tabled : (s : Enrolled) → Refusing (out s)
+  unfolding outcome
+  out-tabled s = computed-tabled (student catalogue year (s .results)) table
+
+  pub listed-told : (buffer numbers places : List ℕ) (m : ℕ) (p : Placed) → length ids ≡ length counts → length (take m buffer) ≡ m
+      → Kept out those (take m buffer) numbers places → Places shares Y (take m buffer) p → listedKept ids numbers places buffer m p ≡ listed out shares Y those
+  listed-told buffer numbers places m p l long k q =
+      let agg = aggregatesOf out those in
+      let cols = columnsOf shares Y agg in
+      let e : take m buffer ≡ agg = k .aggregates-are in
+      let n : m ≡ length agg = sym long ∙ ap length e in
+      let w : Places shares Y agg p = subst (λ (a : List ℕ). Places shares Y a p) e q in
+      let ids-are : ids ≡ idsOf those = sym (ap idsOf (ap (λ (j : ℕ). studentsIn j ids counts results) (sym l)) ∙ ids-in ids counts results) in
+      let many : length ids ≡ length those = l ∙ sym (number-in (length counts) ids counts results) in
+      let eligible : eligibleKept 0 numbers ≤ length agg = omega (arith, ap (eligibleKept 0) (k .numbers-are) ∙ eligible-told out out-tabled 0 those) in
+      (λ i. cohortLine (many i) (n i) (w .left i) ++ linesKept (columns buffer p) 0 ids numbers places)
+      ∙ ap (λ (t : List ℕ). cohortLine (length those) (length agg) (remainder agg shares Y) ++ t)
+      (same-lines (columns buffer p) cols (length agg) (λ j id place h. λ i.
+      studentLine id (in-front m buffer agg j e (omega arith) i) (in-front (length agg) (p .ranks) (cols .ranks) j (w .ranks-are) h i) (in-front (length agg) (p .percentiles) (cols .percentiles) j (w .percentiles-are) h i) (in-front (length agg) (p .bands) (cols .bands) j (w .bands-are) h i))
+      0 ids numbers places eligible
+      ∙ (λ i. linesKept cols 0 (ids-are i) (k .numbers-are i) (k .places-are i)) ∙ lines-told out out-tabled cols 0 those)
