@@ -1,17 +1,17 @@
 -- The head of a field, whole or cut short.
 use Prim.Native.Nat.{ℕ, _+_, _<_, _≤_}
 use native.Mathlib.Omega.{arith}
-use mathlib.Core.Path.{_≡_, refl, sym, ap}
+use mathlib.Core.Path.{_≡_, refl, sym, _∙_}
 use mathlib.Core.Bool.{Bool, true, false}
 use mathlib.Core.List.{List}
-use lib.ListN.{length}
+use lib.ListN.{length, drop, length-drop}
+use lib.Seq.{length-take-le}
 use lib.Dec.{ltb}
 use borrow.Author.Tests.{lt-ltb, le-ltb, ltb-true, ltb-false}
 use Rattle.paper.specs.Words.{pick}
 use Rattle.paper.specs.Bytes.{byte, word}
-use Rattle.fields.specs.Fields.{past}
+use Rattle.fields.specs.Fields.{headBytes, valueAt, past}
 use Rattle.fields.specs.Inner.{headAt}
-use Rattle.fields.specs.declared.heads.Head.{Head}
 use Rattle.fields.specs.declared.heads.Head.the-variants.{Whole, Cut}
 
 module _ (file : List ℕ) (p : ℕ) where
@@ -45,3 +45,7 @@ module _ (file : List ℕ) (p : ℕ) where
       go : (b : Bool) → ltb (length file) (past file p) ≡ b → Whole tag long ≡ pick b Cut (Whole (byte file p) (word file (p + 1))) → There tag long
       go true t e = absurd (let z : _≡_ {A = ℕ} 0 1 = cc in omega arith)
       go false t e = record { fits = ltb-false (length file) (past file p) t; tag-is = cc; long-is = cc }
+
+  -- its value has that length
+  pub value-long : {tag long : ℕ} → There tag long → length (valueAt file p) ≡ long
+  value-long h = length-take-le (word file (p + 1)) (drop (p + headBytes) file) (simp length-drop (omega (arith, h .fits))) ∙ sym (h .long-is)

@@ -3,12 +3,12 @@ use Prim.Native.Nat.{ℕ, zero, suc, _+_, _-_, _<_, _≤_}
 use native.Mathlib.Omega.{arith}
 use native.Mathlib.Decide.{decLt}
 use mathlib.Core.Path.{_≡_, refl, sym, ap, subst, _∙_}
-use mathlib.Core.List.{List, [], _∷_, _++_, append-assoc, append-nil}
+use mathlib.Core.List.{List, [], _∷_, _++_, append-assoc}
 use lib.ListN.{length, take, drop, length-drop, length-append, drop-of-length-le, take-append-drop}
 use lib.Seq.{drop-cons, drop-drop, length-take-le, getD-append-add, drop-append-add, take-append-seam}
 use Rattle.paper.specs.Bytes.{byte, word, wordBytes}
-use Rattle.paper.proofs.Written.{length-word, word-written, word-read}
-use Rattle.fields.specs.Fields.{Field, fieldBytes, fileOf, Piece, whole, cut, valueAt, fieldAt, past, pieces, piecesOf, fieldsIn, Uncut, placed}
+use Rattle.paper.proofs.Written.{length-word, word-read}
+use Rattle.fields.specs.Fields.{Field, fieldBytes, fileOf, Piece, whole, valueAt, fieldAt, past, pieces, piecesOf, fieldsIn, Uncut, placed}
 use Rattle.fields.proofs.Pieces.{pieces-cut, pieces-whole, pieces-end}
 
 module _ (file : List ℕ) (bytes : (i : ℕ) → byte file i < 256) where

@@ -4,7 +4,7 @@ use mathlib.Core.Path.{_≡_, refl}
 use mathlib.Core.List.{List, [], _∷_}
 use lib.ListN.{length}
 use borrow.Author.Tests.{le-leb, lt-leb, lt-ltb, le-ltb}
-use Rattle.fields.specs.Fields.{Piece, whole, cut, fieldAt, past, pieces}
+use Rattle.fields.specs.Fields.{whole, cut, fieldAt, past, pieces}
 
 module _ (n : ℕ) (file : List ℕ) (p : ℕ) where
   pub pieces-cut : p < length file → length file < past file p → pieces (suc n) file p ≡ cut p ∷ []

@@ -9,7 +9,7 @@ use lib.Seq.{getD-drop, drop-drop}
 use borrow.Author.Tests.{le-leb, lt-leb, lt-ltb, le-ltb}
 use Rattle.paper.specs.Bytes.{byte, word}
 use Rattle.paper.specs.Words.{_≤?_, _<?_, if_then_else_}
-use Rattle.fields.specs.Fields.{Field, Piece, whole, cut, valueAt, fieldAt, past, pieces}
+use Rattle.fields.specs.Fields.{Piece, whole, cut, valueAt, fieldAt, past, pieces}
 use Rattle.fields.proofs.Pieces.{pieces-cut, pieces-whole, pieces-end}
 
 -- at most n pieces, the first at offset p, of what is left from there on

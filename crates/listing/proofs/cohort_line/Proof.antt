@@ -43,8 +43,16 @@ byte-requires c κs = search needs
 
 returns : tie.Need-returns
 returns c =
-    written (cohort-fits _ _ _ (c .before .before .before .before .before .before .before .before .before .before .before .fits .students .fits) (c .before .before .before .before .before .before .before .before .before .before .before .fits .eligible .fits) (c .before .before .before .before .before .before .before .before .before .before .before .fits .remainder .fits)) (c .before .before .before .before .before .before .before .before .before .before .empty .ensures)
-    (c .before .before .before .before .before .before .before .before .text .ensures then c .before .before .before .before .before .before .before .number .ensures then c .before .before .before .before .before .text2 .ensures then c .before .before .before .before .number2 .ensures then c .before .before .text3 .ensures then c .before .number3 .ensures then c .byte .ensures)
+    let at-number3 = c .before in
+    let at-text3 = at-number3 .before in
+    let at-number2 = at-text3 .before .before in
+    let at-text2 = at-number2 .before in
+    let at-number = at-text2 .before .before in
+    let at-text = at-number .before in
+    let at-empty = at-text .before .before in
+    let fits = at-empty .before .fits in
+    written (cohort-fits _ _ _ (fits .students .fits) (fits .eligible .fits) (fits .remainder .fits)) (at-empty .empty .ensures)
+    (at-text .text .ensures then at-number .number .ensures then at-text2 .text2 .ensures then at-number2 .number2 .ensures then at-text3 .text3 .ensures then at-number3 .number3 .ensures then c .byte .ensures)
 
 pub cohort-line-spec : {M : Type 1} → statement M
 cohort-line-spec =

@@ -45,8 +45,19 @@ byte-requires-5 c κs = search needs
 
 returns : tie.Need-returns
 returns c =
-    written (student-fits _ _ _ _ _ (c .before .before .before .before .before .before .before .before .before .before .before .fits .id .fits) (c .before .before .before .before .before .before .before .before .before .before .before .fits .aggregate .fits) (c .before .before .before .before .before .before .before .before .before .before .before .fits .rank .fits) (c .before .before .before .before .before .before .before .before .before .before .before .fits .percentile .fits) (c .before .before .before .before .before .before .before .before .before .before .before .fits .band .fits)) (c .before .before .before .before .before .before .before .before .before .before .empty .ensures)
-    (c .before .before .before .before .before .before .before .before .before .number .ensures then c .before .before .before .before .before .before .before .before .byte .ensures then c .before .before .before .before .before .before .before .hundredths .ensures then c .before .before .before .before .before .before .byte2 .ensures then c .before .before .before .before .before .number2 .ensures then c .before .before .before .before .byte3 .ensures then c .before .before .before .thousandths .ensures then c .before .before .byte4 .ensures then c .before .atar .ensures then c .byte5 .ensures)
+    let at-atar = c .before in
+    let at-byte4 = at-atar .before in
+    let at-thousandths = at-byte4 .before in
+    let at-byte3 = at-thousandths .before in
+    let at-number2 = at-byte3 .before in
+    let at-byte2 = at-number2 .before in
+    let at-hundredths = at-byte2 .before in
+    let at-byte = at-hundredths .before in
+    let at-number = at-byte .before in
+    let at-empty = at-number .before in
+    let fits = at-empty .before .fits in
+    written (student-fits _ _ _ _ _ (fits .id .fits) (fits .aggregate .fits) (fits .rank .fits) (fits .percentile .fits) (fits .band .fits)) (at-empty .empty .ensures)
+    (at-number .number .ensures then at-byte .byte .ensures then at-hundredths .hundredths .ensures then at-byte2 .byte2 .ensures then at-number2 .number2 .ensures then at-byte3 .byte3 .ensures then at-thousandths .thousandths .ensures then at-byte4 .byte4 .ensures then at-atar .atar .ensures then c .byte5 .ensures)
 
 pub student-line-spec : {M : Type 1} → statement M
 student-line-spec =

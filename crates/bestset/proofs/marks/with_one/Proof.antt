@@ -54,7 +54,22 @@ marked-requires-7 : tie.Need-marked-requires-7
 marked-requires-7 c κs = search needs
 
 returns : tie.Need-returns
-returns c = simp (c .before .before .before .before .before .before .before .before .before .before .before .marked .ensures, c .before .before .before .before .before .before .before .before .before .marked2 .ensures, c .before .before .before .before .before .before .before .before .marked3 .ensures, c .before .before .before .before .before .before .marked4 .ensures, c .before .before .before .before .marked5 .ensures, c .before .before .marked6 .ensures, c .marked7 .ensures, c .before .before .before .before .before .before .before .both .ensures, c .before .before .before .before .before .both2 .ensures, c .before .before .before .both3 .ensures, c .before .both4 .ensures, c .before .before .before .before .before .before .before .before .before .before .before .before .usable .ensures, c .before .before .before .before .before .before .before .before .before .before .passes .ensures, c .before .before .before .before .before .before .before .before .before .before .before .before .before .before .before .before .is-general .ensures, c .before .before .before .before .before .before .before .before .before .before .before .before .before .before .before .is-applied .ensures)
+returns c =
+    let at-both4 = c .before in
+    let at-marked6 = at-both4 .before in
+    let at-both3 = at-marked6 .before in
+    let at-marked5 = at-both3 .before in
+    let at-both2 = at-marked5 .before in
+    let at-marked4 = at-both2 .before in
+    let at-both = at-marked4 .before in
+    let at-marked3 = at-both .before in
+    let at-marked2 = at-marked3 .before in
+    let at-passes = at-marked2 .before in
+    let at-marked = at-passes .before in
+    let at-usable = at-marked .before in
+    let at-applied = at-usable .before .before .before in
+    let at-general = at-applied .before in
+    simp (at-marked .marked .ensures, at-marked2 .marked2 .ensures, at-marked3 .marked3 .ensures, at-marked4 .marked4 .ensures, at-marked5 .marked5 .ensures, at-marked6 .marked6 .ensures, c .marked7 .ensures, at-both .both .ensures, at-both2 .both2 .ensures, at-both3 .both3 .ensures, at-both4 .both4 .ensures, at-usable .usable .ensures, at-passes .passes .ensures, at-general .is-general .ensures, at-applied .is-applied .ensures)
 
 pub with-one-spec : {M : Type 1} → statement M
 with-one-spec =

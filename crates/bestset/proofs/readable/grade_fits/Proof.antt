@@ -32,7 +32,10 @@ within-requires : tie.Need-within-requires
 within-requires c κs = search needs
 
 returns-4 : tie.Need-returns-4
-returns-4 c = simp (← (c .before .before .before .before .is-vet .ensures), c .before .before .before .if1 .left, ← (c .before .before .wide8 .ensures .0), ← (c .before .within .ensures), not-true (c .before .within .result) (c .if4 .taken))
+returns-4 c =
+    let w = c .before in
+    let f = w .before .before in
+    simp (← (f .before .is-vet .ensures), f .if1 .left, ← (w .before .wide8 .ensures .0), ← (w .within .ensures), not-true (w .within .result) (c .if4 .taken))
 
 is-general-requires : tie.Need-is-general-requires
 is-general-requires c κs = search needs
@@ -44,10 +47,19 @@ within-requires-2 : tie.Need-within-requires-2
 within-requires-2 c κs = search needs
 
 returns-5 : tie.Need-returns-5
-returns-5 c = simp (← (c .before .before .before .before .before .before .before .before .is-vet .ensures), c .before .before .before .before .before .before .before .if1 .left, ← (c .before .wide82 .ensures .0), ← (c .within2 .ensures), ← (c .before .before .before .before .before .before .wide8 .ensures .0), ← (c .before .before .before .before .before .within .ensures), not-false (c .before .before .before .before .before .within .result) (c .before .before .before .before .if4 .left), ← (c .before .before .before .is-general .ensures), c .before .before .if5 .taken)
+returns-5 c =
+    let e = c .before .before in
+    let d = e .before .before in
+    let w = d .before in
+    let f = w .before .before in
+    simp (← (f .before .is-vet .ensures), f .if1 .left, ← (c .before .wide82 .ensures .0), ← (c .within2 .ensures), ← (w .before .wide8 .ensures .0), ← (w .within .ensures), not-false (w .within .result) (d .if4 .left), ← (e .before .is-general .ensures), e .if5 .taken)
 
 returns-6 : tie.Need-returns-6
-returns-6 c = simp (← (c .before .before .before .before .before .before .is-vet .ensures), c .before .before .before .before .before .if1 .left, ← (c .before .before .before .before .wide8 .ensures .0), ← (c .before .before .before .within .ensures), not-false (c .before .before .before .within .result) (c .before .before .if4 .left), ← (c .before .is-general .ensures), c .if5 .left)
+returns-6 c =
+    let d = c .before .before in
+    let w = d .before in
+    let f = w .before .before in
+    simp (← (f .before .is-vet .ensures), f .if1 .left, ← (w .before .wide8 .ensures .0), ← (w .within .ensures), not-false (w .within .result) (d .if4 .left), ← (c .before .is-general .ensures), c .if5 .left)
 
 pub grade-fits-spec : {M : Type 1} → statement M
 grade-fits-spec =

@@ -1,8 +1,9 @@
+use mathlib.Core.List.{List}
 use Rattle.bestset.specs.Rules.{resultRules, turnRules}
-use Rattle.results.specs.Results.{student, held, heldIn}
+use Rattle.results.specs.Results.{Student, student, held, heldIn}
 use Rattle.paper.proofs.Ruled.{Unbroken, all-kept, kept-all, turns-kept, turn-refused}
 use Rattle.paper.specs.Screening.{ruled}
-use Rattle.paper.specs.Rulings.{judged}
+use Rattle.paper.specs.Rulings.{Rule, judged}
 use borrow.Author.Count.{below-more}
 use native.Mathlib.Omega.{arith}
 use mathlib.Core.Path.{_≡_, sym, ap, _∙_}
@@ -20,9 +21,22 @@ Inv-loop catalogue table year results i₀ i = (i ≤ heldIn results) × ((j : �
 abbrev μ-loop : tie.MeasureT-loop
 μ-loop catalogue table year results i₀ i = heldIn results - i
 
+-- at a turn of the loop: the start, and the rules of each result
+module _ (c : tie.At-loop Inv-loop μ-loop) where
+  abbrev start : tie.Start Inv-loop μ-loop
+  start = c .before .before .before .before
+
+  abbrev who : Student
+  who = student (start .args .catalogue .now) (start .args .year) (start .args .results .now)
+
+  abbrev rules : ℕ → List Rule
+  rules = resultRules who (start .args .table .now)
+
+abbrev turn : tie.After-judge-result Inv-loop μ-loop → tie.At-loop Inv-loop μ-loop
+turn c = c .before .before .before
+
 -- the result at i is judged by its rules
-judged-here : (c : tie.After-judge-result Inv-loop μ-loop) → let a = c .before .before .before .before .before .before .before .args in
-    ruled (c .judge-result .result) ≡ judged (resultRules (student (a .catalogue .now) (a .year) (a .results .now)) (a .table .now) (c .before .before .before .loop .i)) tt
+judged-here : (c : tie.After-judge-result Inv-loop μ-loop) → ruled (c .judge-result .result) ≡ judged (rules (turn c) (turn c .loop .i)) tt
 judged-here c = rw (c .before .result-at .ensures) at (c .judge-result .ensures)
 
 loop-holds : tie.Need-loop-holds Inv-loop μ-loop
@@ -39,9 +53,8 @@ enum-known-verdict c = search needs
 
 returns : tie.Need-returns Inv-loop μ-loop
 returns c =
-    let a = c .before .before .before .before .before .before .before .before .before .before .args in
-    let rules = resultRules (student (a .catalogue .now) (a .year) (a .results .now)) (a .table .now) in
-    sym (turn-refused _ rules tt tt _ _ (omega arith) (c .before .before .before .before .before .before .loop .inv .1) (sym (judged-here (c .before .before .before)) ∙ ap ruled (c .before .verdict .given .1)))
+    let d = c .before .before .before in
+    sym (turn-refused _ (rules (turn d)) tt tt _ _ (omega arith) (turn d .loop .inv .1) (sym (judged-here d) ∙ ap ruled (c .before .verdict .given .1)))
 
 enum-told : tie.Need-enum-told Inv-loop μ-loop
 enum-told c = search needs
@@ -54,15 +67,15 @@ loop-less c = search needs
 
 loop-again : tie.Need-loop-again Inv-loop μ-loop
 loop-again c =
-    let a = c .before .before .before .before .before .before .before .before .before .args in
-    let rules = resultRules (student (a .catalogue .now) (a .year) (a .results .now)) (a .table .now) in
-    (omega arith, below-more _ _ (c .before .before .before .before .before .loop .inv .1) (all-kept (rules (c .before .before .before .before .before .loop .i)) tt tt (sym (judged-here (c .before .before)) ∙ ap ruled (c .enum-told .given .1))))
+    let d = c .before .before in
+    let l = turn d .loop in
+    (omega arith, below-more _ _ (l .inv .1) (all-kept (rules (turn d) (l .i)) tt tt (sym (judged-here d) ∙ ap ruled (c .enum-told .given .1))))
 
 returns-2 : tie.Need-returns-2 Inv-loop μ-loop
 returns-2 c =
-    let a = c .before .before .before .before .before .args in
-    let s = student (a .catalogue .now) (a .year) (a .results .now) in
-    sym (kept-all (turnRules s (a .table .now)) tt (turns-kept (held s) (resultRules s (a .table .now)) (λ j l. c .before .loop .inv .1 j (omega arith))))
+    let d = c .before in
+    let s = who d in
+    sym (kept-all (turnRules s (start d .args .table .now)) tt (turns-kept (held s) (rules d) (λ j l. d .loop .inv .1 j (omega arith))))
 
 pub judge-results-spec : {M : Type 1} → statement M
 judge-results-spec =

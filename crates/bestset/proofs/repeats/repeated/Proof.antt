@@ -31,7 +31,9 @@ shl-if1 c = search needs
 
 returns : tie.Need-returns Inv-loop μ-loop
 unfolding repeatedIn
-returns c = sym (first-false _ _ (marked-no (c .before .before .args .usable) (c .before .before .args .i) (c .before .before .pre) (c .if1 .taken)))
+returns c =
+    let s = c .before .before in
+    sym (first-false _ _ (marked-no (s .args .usable) (s .args .i) (s .pre) (c .if1 .taken)))
 
 loop-holds : tie.Need-loop-holds Inv-loop μ-loop
 loop-holds c = (omega arith, λ j l. absurd (omega arith))
@@ -48,10 +50,14 @@ year-at-requires-2 c κs = search needs
 returns-2 : tie.Need-returns-2 Inv-loop μ-loop
 unfolding repeatedIn
 returns-2 c =
-    let a = c .before .before .before .before .before .before .before .before .before .args in
-    sym (true-both _ _ (marked-yes (a .usable) (a .i) (c .before .before .before .before .before .before .before .before .before .pre) (c .before .before .before .before .before .before .before .if1 .left))
-    (some-has (a .i) (sameYearIn (a .results .now) (a .usable) (a .i)) (c .before .before .before .before .before .before .loop .j) (c .before .before .before .before .before .loop-test .taken)
-    (true-both _ _ (sym (c .before .before .before .before .same-subject .ensures) ∙ c .before .before .before .if2 .taken) (simp (← (c .before .before .year-at .ensures), ← (c .before .year-at2 .ensures)) (c .if3 .taken)))))
+    let y = c .before .before in
+    let d = y .before .before in
+    let turn = d .before .before in
+    let s = turn .before .before .before in
+    let a = s .args in
+    sym (true-both _ _ (marked-yes (a .usable) (a .i) (s .pre) (turn .before .if1 .left))
+    (some-has (a .i) (sameYearIn (a .results .now) (a .usable) (a .i)) (turn .loop .j) (d .before .loop-test .taken)
+    (true-both _ _ (sym (d .same-subject .ensures) ∙ y .before .if2 .taken) (simp (← (y .year-at .ensures), ← (c .before .year-at2 .ensures)) (c .if3 .taken)))))
 
 add-j : tie.Need-add-j Inv-loop μ-loop
 add-j c = search needs
@@ -61,21 +67,25 @@ loop-less c = search needs
 
 loop-again : tie.Need-loop-again Inv-loop μ-loop
 loop-again c =
-    let a = c .before .before .before .before .before .before .args in (
+    let d = c .before in
+    let turn = d .before .before in
+    let a = turn .before .before .before .args in (
       omega arith,
-      below-more _ _ (c .before .before .before .loop .inv .1)
+      below-more _ _ (turn .loop .inv .1)
           (⊎-elim
-          (λ w. not-both (sameSubjectIn (a .results .now) (a .usable) (a .i) (c .before .before .before .loop .j)) (yearOf (a .results .now) (c .before .before .before .loop .j) =? yearOf (a .results .now) (a .i)) (λ e. simp (← (w .1 .ensures), ← (w .2 .ensures)) (w .3 .left)))
-          (λ w. first-false _ _ (sym (c .before .same-subject .ensures) ∙ w .left))
+          (λ w. not-both (sameSubjectIn (a .results .now) (a .usable) (a .i) (turn .loop .j)) (yearOf (a .results .now) (turn .loop .j) =? yearOf (a .results .now) (a .i)) (λ e. simp (← (w .1 .ensures), ← (w .2 .ensures)) (w .3 .left)))
+          (λ w. first-false _ _ (sym (d .same-subject .ensures) ∙ w .left))
           (c .if2 .came)),
     )
 
 returns-3 : tie.Need-returns-3 Inv-loop μ-loop
 unfolding repeatedIn
 returns-3 c =
-    let a = c .before .before .before .before .args in
-    sym (first-true _ _ (marked-yes (a .usable) (a .i) (c .before .before .before .before .pre) (c .before .before .if1 .left))
-    ∙ none-has (a .i) (sameYearIn (a .results .now) (a .usable) (a .i)) (λ k l. c .before .loop .inv .1 k (omega arith)))
+    let turn = c .before in
+    let s = turn .before .before .before in
+    let a = s .args in
+    sym (first-true _ _ (marked-yes (a .usable) (a .i) (s .pre) (turn .before .if1 .left))
+    ∙ none-has (a .i) (sameYearIn (a .results .now) (a .usable) (a .i)) (λ k l. turn .loop .inv .1 k (omega arith)))
 
 pub repeated-spec : {M : Type 1} → statement M
 repeated-spec =

@@ -1,7 +1,6 @@
 use Prim.Native.Nat.{ℕ, _+_, _-_, _*_}
 use borrow.Rule.Slice.PartMut.{putMid}
-use mathlib.Core.Path.{_≡_, refl, sym, ap, _∙_}
-use mathlib.Core.Bool.{Bool}
+use mathlib.Core.Path.{_≡_, refl, ap, _∙_}
 use lib.ListN.{length}
 use Rattle.paper.specs.Limits.{entryBytes}
 use Rattle.paper.specs.Parts.{laid}

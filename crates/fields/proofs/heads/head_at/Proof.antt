@@ -1,6 +1,5 @@
 use mathlib.Core.Path.{sym}
 use native.Mathlib.Omega.{arith}
-use Rattle.fields.specs.declared.heads.Head.the-variants.{Whole}
 use Rattle.fields.proofs.Headed.{is-cut, is-whole}
 use borrow.Author.Needs.{needs}
 use Rattle.fields.proofs.heads.head_at.Statement.{statement}

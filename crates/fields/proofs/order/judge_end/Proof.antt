@@ -1,6 +1,5 @@
 use mathlib.Core.Path.{refl}
 use borrow.Author.Tests.{lt-ltb, le-ltb}
-use borrow.Author.Needs.{needs}
 use Rattle.fields.proofs.order.judge_end.Statement.{statement}
 use Rattle.fields.proofs.order.judge_end.Tie as tie
 

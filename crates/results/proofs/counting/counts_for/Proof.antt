@@ -22,13 +22,24 @@ is-vet-requires : tie.Need-is-vet-requires
 is-vet-requires c κs = search needs
 
 returns-3 : tie.Need-returns-3
-returns-3 c = simp (← (c .before .before .before .before .before .before .before .before .is-general .ensures), c .before .before .before .before .before .before .before .if1 .left, ← (c .before .before .before .before .before .before .is-applied .ensures), c .before .before .before .before .before .if2 .left, ← (c .before .before .before .before .is-vet .ensures), c .before .before .before .if3 .taken, eq-eqb _ _ (c .before .if4 .taken))
+returns-3 c =
+    let v = c .before .before .before in
+    let d = v .before .before in
+    let g = d .before .before in
+    simp (← (g .before .is-general .ensures), g .if1 .left, ← (d .before .is-applied .ensures), d .if2 .left, ← (v .before .is-vet .ensures), v .if3 .taken, eq-eqb _ _ (c .before .if4 .taken))
 
 returns-4 : tie.Need-returns-4
-returns-4 c = simp (← (c .before .before .before .before .before .before .before .is-general .ensures), c .before .before .before .before .before .before .if1 .left, ← (c .before .before .before .before .before .is-applied .ensures), c .before .before .before .before .if2 .left, ← (c .before .before .before .is-vet .ensures), c .before .before .if3 .taken, ne-eqb _ _ (c .if4 .left))
+returns-4 c =
+    let v = c .before .before in
+    let d = v .before .before in
+    let g = d .before .before in
+    simp (← (g .before .is-general .ensures), g .if1 .left, ← (d .before .is-applied .ensures), d .if2 .left, ← (v .before .is-vet .ensures), v .if3 .taken, ne-eqb _ _ (c .if4 .left))
 
 returns-5 : tie.Need-returns-5
-returns-5 c = simp (← (c .before .before .before .before .before .is-general .ensures), c .before .before .before .before .if1 .left, ← (c .before .before .before .is-applied .ensures), c .before .before .if2 .left, ← (c .before .is-vet .ensures), c .if3 .left)
+returns-5 c =
+    let d = c .before .before in
+    let g = d .before .before in
+    simp (← (g .before .is-general .ensures), g .if1 .left, ← (d .before .is-applied .ensures), d .if2 .left, ← (c .before .is-vet .ensures), c .if3 .left)
 
 pub counts-for-spec : {M : Type 1} → statement M
 counts-for-spec =

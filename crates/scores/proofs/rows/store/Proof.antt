@@ -12,11 +12,17 @@ use Rattle.paper.proofs.bytes.put_word.Reads as put-word-reads
 use Rattle.scores.proofs.slots.has_slot.Reads as has-slot-reads
 use Rattle.scores.proofs.slots.in_row.Reads as in-row-reads
 
-has : (c : tie.Then1) → hasSlot (c .before .before .before .args .table .now) (c .before .before .before .args .subject) (c .before .before .before .args .raw .0) ≡ true
+-- where there is such a slot, and where there is none: what is given
+abbrev given : tie.After-has-slot → tie.Start
+given c = c .before .before
+
+has : (c : tie.Then1) → let g = given (c .before) .args in hasSlot (g .table .now) (g .subject) (g .raw .0) ≡ true
 has c = sym (c .before .has-slot .ensures) ∙ c .if1 .taken
 
-there : (c : tie.Then1) → (c .before .before .before .args .subject < rows (c .before .before .before .args .table .now)) × (1 ≤ c .before .before .before .args .raw .0) × (c .before .before .before .args .raw .0 ≤ slots)
-there c = slot-there (c .before .before .before .args .table .now) (c .before .before .before .args .subject) (c .before .before .before .args .raw .0) (has c)
+there : (c : tie.Then1) → let g = given (c .before) .args in (g .subject < rows (g .table .now)) × (1 ≤ g .raw .0) × (g .raw .0 ≤ slots)
+there c =
+    let g = given (c .before) .args in
+    slot-there (g .table .now) (g .subject) (g .raw .0) (has c)
 
 has-slot-requires : tie.Need-has-slot-requires
 has-slot-requires c κs = search needs
@@ -46,10 +52,17 @@ same-length : tie.Need-same-length
 same-length c = search needs
 
 returns : tie.Need-returns
-returns c = row-scored (c .before .before .before .before .before .before .before .before .args .table .now) (c .before .before .before .before .before .before .before .before .args .subject) (c .before .before .put-word .last .0) (c .before .before .before .before .before .before .before .before .args .raw .0) (c .before .before .before .before .before .before .before .before .args .score .0) (has (c .before .before .before .before .before)) (rw (c .before .before .before .before .in-row .ensures .0) at (c .before .before .put-word .ensures))
+returns c =
+    let put = c .before .before in
+    let row = put .before .before in
+    let d = row .before in
+    let g = given (d .before) .args in
+    row-scored (g .table .now) (g .subject) (put .put-word .last .0) (g .raw .0) (g .score .0) (has d) (rw (row .in-row .ensures .0) at (put .put-word .ensures))
 
 returns-2 : tie.Need-returns-2
-returns-2 c = sym (stored-none (c .before .before .before .args .table .now) (c .before .before .before .args .subject) (c .before .before .before .args .raw .0) (c .before .before .before .args .score .0) (sym (c .before .has-slot .ensures) ∙ c .if1 .left))
+returns-2 c =
+    let g = given (c .before) .args in
+    sym (stored-none (g .table .now) (g .subject) (g .raw .0) (g .score .0) (sym (c .before .has-slot .ensures) ∙ c .if1 .left))
 
 pub store-spec : {M : Type 1} → statement M
 store-spec =
