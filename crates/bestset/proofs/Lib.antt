@@ -7,5 +7,6 @@ pub mod Judging
 pub mod Marking
 pub mod Meeting
 pub mod Named
+pub mod Places
 pub mod Promised
 pub mod Usable

@@ -6,11 +6,11 @@ use mathlib.Core.List.{List, [], _∷_, _++_, append-assoc, append-nil}
 use lib.ListN.{length, getD, take, set, length-set}
 use lib.Seq.{take-suc-set, take-length}
 use Rattle.paper.specs.Limits.{resultBytes}
-use Rattle.paper.specs.Rulings.{Outcome, accepted, refused}
+use Rattle.paper.specs.Rulings.{Outcome, accepted, refused, numberIn, placeIn}
 use Rattle.bestset.specs.Promise.{Values}
 use Rattle.cohort.specs.Held.{Enrolled}
 use Rattle.report.specs.Report.{outcome, withAggregate, aggregatesOf, afterOne}
-use Rattle.report.specs.Inner.{studentsIn, outcomeAt, numberIn, placeIn, numbersOf, placesOf, Kept, joined}
+use Rattle.report.specs.Inner.{studentsIn, outcomeAt, numbersOf, placesOf, Kept, joined}
 use Rattle.report.proofs.Standing.{from, studentAt, next, none}
 
 -- a list to which the outcome of each student adds

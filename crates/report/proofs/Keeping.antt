@@ -10,11 +10,8 @@ use lib.Dec.{eqb}
 use borrow.Author.Tests.{ne-eqb, eqb-true}
 use Rattle.paper.specs.Limits.{resultBytes}
 use Rattle.paper.specs.Lists.{pick}
-use Rattle.paper.specs.Refusals.{fault, refusal}
-use Rattle.paper.specs.Rulings.{Outcome, accepted, refused, numberOf}
-use Rattle.paper.proofs.Ruled.{Refusing}
-use Rattle.paper.specs.declared.refusal.Refusal.{Refusal}
-use Rattle.paper.specs.declared.refusal.Refusal.the-variants.{Malformed, TooMany, WrongSubject, WrongResult, WrongScore, Again, NoEnglish, NoSet, WrongPopulation, WrongRate, WrongLength, WrongAggregate, WrongEntry, WrongYear}
+use Rattle.paper.specs.Rulings.{Outcome, accepted, refused, numberOf, numberIn, placeIn}
+use Rattle.paper.proofs.Ruled.{Refusing, some-number}
 use Rattle.results.specs.Results.{student}
 use Rattle.bestset.specs.Promise.{Values}
 use Rattle.bestset.proofs.Meeting.{computed-tabled}
@@ -22,35 +19,18 @@ use Rattle.bands.specs.Placing.{remainder}
 use Rattle.listing.specs.Lines.{cohortLine, studentLine, refusedLine}
 use Rattle.cohort.specs.Held.{Enrolled, idsOf}
 use Rattle.report.specs.Report.{Columns, columnsOf, outcome, withAggregate, aggregatesOf, lineOf, afterOne, linesOf, listed}
-use Rattle.report.specs.Inner.{studentsIn, numberIn, placeIn, numbersOf, placesOf, Kept, lineKept, afterKept, linesKept, eligibleKept, columns, Places, listedKept}
+use Rattle.report.specs.Inner.{studentsIn, numbersOf, placesOf, Kept, lineKept, afterKept, linesKept, eligibleKept, columns, Places, listedKept}
 use Rattle.report.specs.declared.placing.Placed.{Placed}
 use Rattle.report.proofs.Lining.{eligible-least}
-
--- no refusal has the number 0
-not-0 : (x : Refusal) → numberOf (fault x) ≡ 0 → ⊥
-not-0 (Malformed place) e = omega arith
-not-0 (TooMany place) e = omega arith
-not-0 (WrongSubject place) e = omega arith
-not-0 (WrongResult place) e = omega arith
-not-0 (WrongScore place) e = omega arith
-not-0 (Again place) e = omega arith
-not-0 NoEnglish e = omega arith
-not-0 NoSet e = omega arith
-not-0 (WrongPopulation place) e = omega arith
-not-0 (WrongRate place) e = omega arith
-not-0 WrongLength e = omega arith
-not-0 (WrongAggregate place) e = omega arith
-not-0 (WrongEntry place) e = omega arith
-not-0 (WrongYear place) e = omega arith
 
 -- what is kept of a student tells its line and whether it is eligible
 line-told : (c : Columns) (j id : ℕ) (o : Outcome Values) → Refusing o → lineKept c j id (numberIn o) (placeIn o) ≡ lineOf c j id o
 line-told c j id (accepted v) h = refl
-line-told c j id (refused f) h = rw (ne-eqb (numberOf f) 0 (λ e. not-0 (refusal f) (ap numberOf h ∙ e))) refl
+line-told c j id (refused f) h = rw (ne-eqb (numberOf f) 0 (λ e. omega (arith, some-number f h))) refl
 
 after-told : (j : ℕ) (o : Outcome Values) → Refusing o → afterKept j (numberIn o) ≡ afterOne j o
 after-told j (accepted v) h = refl
-after-told j (refused f) h = rw (ne-eqb (numberOf f) 0 (λ e. not-0 (refusal f) (ap numberOf h ∙ e))) refl
+after-told j (refused f) h = rw (ne-eqb (numberOf f) 0 (λ e. omega (arith, some-number f h))) refl
 
 module _ (out : Enrolled → Outcome Values) (tabled : (s : Enrolled) → Refusing (out s)) where
   lines-told : (c : Columns) (j : ℕ) (ss : List Enrolled) → linesKept c j (idsOf ss) (numbersOf out ss) (placesOf out ss) ≡ linesOf out c j ss

@@ -5,7 +5,7 @@ use mathlib.Core.List.{List, [], _∷_, _++_, map}
 use lib.ListN.{length, getD, take, drop, set}
 use Rattle.paper.specs.Limits.{resultBytes, mostResults, mostAggregate, mostStudents, resultsBytes, mostPopulation, leastRate, mostRate}
 use Rattle.paper.specs.Parts.{laid}
-use Rattle.paper.specs.Rulings.{Outcome, accepted, refused, numberOf, placeOf}
+use Rattle.paper.specs.Rulings.{Outcome, accepted, refused, numberIn, placeIn}
 use Rattle.paper.specs.Words.{_=?_, if_then_else_}
 use Rattle.results.specs.Results.{student}
 use Rattle.bestset.specs.Promise.{Values}
@@ -29,16 +29,7 @@ studentsIn (suc n) ids counts results =
 abbrev pub outcomeAt : List ℕ → List ℕ → ℕ → List ℕ → ℕ → ℕ → Outcome Values
 outcomeAt catalogue table year results place count = computed (student catalogue year (take (resultBytes * count) (drop place results))) table
 
--- the number and the place of an outcome's refusal, both 0 where it is accepted
-abbrev pub numberIn : Outcome Values → ℕ
-numberIn (accepted v) = 0
-numberIn (refused f) = numberOf f
-
-abbrev pub placeIn : Outcome Values → ℕ
-placeIn (accepted v) = 0
-placeIn (refused f) = placeOf f
-
--- of the students in file order
+-- the number and the place of each student's refusal, both 0 of an eligible one, in file order
 abbrev pub numbersOf : (Enrolled → Outcome Values) → List Enrolled → List ℕ
 numbersOf outcomes students = map (λ (s : Enrolled). numberIn (outcomes s)) students
 

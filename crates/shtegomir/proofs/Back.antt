@@ -3,8 +3,7 @@ use Prim.Native.Nat.{ℕ, _≤_}
 use native.Mathlib.Omega.{arith}
 use mathlib.Core.Path.{_≡_, refl, sym, ap, subst, _∙_}
 use Rattle.paper.specs.Rulings.{Fault, _at_, Outcome, accepted, refused, valuesOr, numberOf, placeOf}
-use Rattle.paper.specs.Refusals.{fault, refusal}
-use Rattle.paper.proofs.Ruled.{Refusing}
+use Rattle.paper.proofs.Ruled.{Refusing, some-number}
 use Rattle.bestset.specs.Promise.{Values as BestValues}
 use Rattle.curve.specs.Promise.{Values as CurveValues}
 use Rattle.shtegomir.specs.Telling.{told}
@@ -17,15 +16,10 @@ use Rattle.shtegomir.specs.declared.best.Best.{Best}
 use Rattle.shtegomir.specs.declared.participation.Curve.{Curve}
 use Rattle.shtegomir.specs.declared.placing.Placed.{Placed}
 use Rattle.shtegomir.specs.declared.text.Text.{Text}
-use Rattle.shtegomir.proofs.Promised.{not-0}
 
 -- a fault is its number and its place
 same-fault : (f g : Fault) → numberOf f ≡ numberOf g → placeOf f ≡ placeOf g → f ≡ g
 same-fault (a at b) (c at d) p q = λ i. p i at q i
-
--- no fault of the table has the number 0
-some-number : (f : Fault) → fault (refusal f) ≡ f → 1 ≤ numberOf f
-some-number f e = subst (λ (g : Fault). 1 ≤ numberOf g) e (not-0 (refusal f))
 
 -- what is told, with the values, tells the outcome back
 told-back : {A : Type 0} (none : A) (o p : Outcome A) → Refusing o → Refusing p → told o ≡ told p → valuesOr none o ≡ valuesOr none p → o ≡ p

@@ -1,12 +1,7 @@
 -- What C gets is determined, and so is every lent buffer; and something is permitted.
-use Prim.Native.Nat.{ℕ, _≤_}
-use native.Mathlib.Omega.{arith}
+use Prim.Native.Nat.{ℕ}
 use mathlib.Core.Path.{_≡_, refl}
 use mathlib.Core.List.{List}
-use Rattle.paper.specs.Rulings.{numberOf}
-use Rattle.paper.specs.Refusals.{fault}
-use Rattle.paper.specs.declared.refusal.Refusal.{Refusal}
-use Rattle.paper.specs.declared.refusal.Refusal.the-variants.{Malformed, TooMany, WrongSubject, WrongResult, WrongScore, Again, NoEnglish, NoSet, WrongPopulation, WrongRate, WrongLength, WrongAggregate, WrongEntry, WrongYear}
 use Rattle.paper.proofs.Promised.{called-once, called-met}
 use Rattle.results.specs.Results.{Student}
 use Rattle.bestset.specs.Computed.{computed, answer as bestAnswer}
@@ -72,20 +67,3 @@ module _ (file before : List ℕ) where
 
   pub report-meets : let o = reportSays.ruling file before in ReportCalled file before (textForm (reportSays.answer o)) (reportSays.left file before o)
   report-meets = called-met textForm (report.meets file before)
-
--- no refusal has the number 0, by which C tells that it is accepted
-pub not-0 : (x : Refusal) → 1 ≤ numberOf (fault x)
-not-0 (Malformed place) = omega arith
-not-0 (TooMany place) = omega arith
-not-0 (WrongSubject place) = omega arith
-not-0 (WrongResult place) = omega arith
-not-0 (WrongScore place) = omega arith
-not-0 (Again place) = omega arith
-not-0 NoEnglish = omega arith
-not-0 NoSet = omega arith
-not-0 (WrongPopulation place) = omega arith
-not-0 (WrongRate place) = omega arith
-not-0 WrongLength = omega arith
-not-0 (WrongAggregate place) = omega arith
-not-0 (WrongEntry place) = omega arith
-not-0 (WrongYear place) = omega arith

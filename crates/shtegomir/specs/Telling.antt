@@ -1,5 +1,5 @@
 -- What C is told of an outcome, whatever was asked.
-use Rattle.paper.specs.Rulings.{Fault, Outcome, accepted, refused, numberOf, placeOf}
+use Rattle.paper.specs.Rulings.{Fault, numberOf, placeOf, Outcome, numberIn, placeIn}
 use Rattle.shtegomir.specs.declared.telling.Told.{Told}
 
 -- accepted: refusal and place are 0
@@ -11,5 +11,4 @@ abbrev pub wrong : Fault → Told
 wrong f = record { refusal = numberOf f; place = placeOf f }
 
 abbrev pub told : {A : Type 0} → Outcome A → Told
-told (accepted values) = nothingWrong
-told (refused fault) = wrong fault
+told o = record { refusal = numberIn o; place = placeIn o }

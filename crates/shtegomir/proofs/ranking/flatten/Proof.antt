@@ -19,7 +19,7 @@ tell-requires : tie.Need-tell-requires
 tell-requires c κs = search needs
 
 returns : tie.Need-returns
-returns c = search needs
+returns c = rw (c .nothing-wrong .ensures) (sym (ap form (c .before .enum-told .given .1)))
 
 returns-2 : tie.Need-returns-2
 returns-2 c = rw (c .tell .ensures) (sym (ap form (c .before .before .answer .given .1)))
