@@ -65,7 +65,7 @@ told-ended : (end : ℕ) (o : Outcome Reader) → Refusing o → Refusing (ended
 told-ended end (refused x) h = h
 told-ended end (accepted so) h = tabled (endRules (so .far) end) (so .held) (λ e. refl, tt)
 
-told-reading : (file : List ℕ) → Refusing (reading file)
+pub told-reading : (file : List ℕ) → Refusing (reading file)
 unfolding reading body
 told-reading file = go (ltb mostBytes (length file))
   where
