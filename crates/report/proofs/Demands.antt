@@ -31,6 +31,7 @@ use Rattle.report.proofs.Accepting.{table-drawn, ranks-accept, bands-ac
 use Rattle.report.proofs.Best.{chosen}
 use Rattle.bestset.proofs.Meeting.{computed-ruled}
 use Rattle.report.proofs.Bounded.{aggregates-most}
+use Rattle.report.proofs.Few.{eligible-within}
 
 -- each student's outcome is one that the best set permits: the greatest over all admissible sets, or the refusal that the rules fix
 pub owed : (held : Held) (s : Enrolled)
@@ -147,23 +148,13 @@ module _ (file : List ℕ) (held : Held) (reads : reading file ≡ accepted held
       → In (refusedLine (s .id) (numberOf f) (placeOf f)) (textOf file)
   turned before s rest f e a = subst (λ (o : Outcome Values). In (lineOf cols (length (aggregatesOf out before)) (s .id) o) (textOf file)) a (printed before s rest e)
 
-  -- at most as many are eligible as there are students
-  eligible-within : (ss : List Enrolled) → length (aggregatesOf out ss) ≤ length ss
-  unfolding aggregatesOf
-  eligible-within [] = omega arith
-  eligible-within (s ∷ ss) = go (out s) (eligible-within ss)
-    where
-      go : (o : Outcome Values) → length (aggregatesOf out ss) ≤ length ss → length (withAggregate o (aggregatesOf out ss)) ≤ suc (length ss)
-      go (accepted v) h = omega arith
-      go (refused f) h = omega arith
-
   placeable : Placeable (rate (held .figures)) (Y (held .figures)) (eligibleOf held)
   placeable =
       let good = sound file held reads in
       let people = counted (held .figures) (Y (held .figures)) (rate (held .figures)) (record { says = sym (good .population); leaves = tt }) in
       record {
         populated = record { least-rate = people .least-rate; most-rate = people .most-rate; some = people .some; most = people .most };
-        few = omega (arith, eligible-within (held .students), good .few-students);
+        few = omega (arith, eligible-within out (held .students), good .few-students);
         each = aggregates-most (held .catalogue) (held .table) (held .year) (held .students);
       }
 

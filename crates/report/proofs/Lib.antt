@@ -4,9 +4,10 @@ pub mod Bounded
 pub mod ByHand
 pub mod Collecting
 pub mod Demands
+pub mod Few
 pub mod Filed
-pub mod Joined
 pub mod Keeping
+pub mod Lengths
 pub mod Lining
 pub mod Promised
 pub mod Puts

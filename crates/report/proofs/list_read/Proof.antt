@@ -1,5 +1,5 @@
 use Rattle.report.proofs.Keeping.{listed-told}
-use Rattle.report.proofs.Joined.{remainder-within}
+use Rattle.report.proofs.Few.{remainder-within}
 use Rattle.report.proofs.Bounded.{collected-placeable}
 use Rattle.report.specs.Inner.{studentsIn, listedKept, Put}
 use Rattle.report.specs.Report.{outcome}
