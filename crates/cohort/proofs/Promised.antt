@@ -24,7 +24,7 @@ use Rattle.cohort.specs.Taking.{figuresIn}
 use Rattle.cohort.specs.Judging.{valueRules, yearRules, subjectRules, scoreRules, figuresRules, studentRules}
 use Rattle.cohort.specs.Reading.{Reader, opened, passed, fieldRules, after, readAll, ended, body, reading}
 use Rattle.cohort.specs.Promise.{said, valuesOf, Lent, written, ruling, Promise, accept, answer, left}
-use Rattle.cohort.specs.Inner.{Scanned}
+use Rattle.cohort.specs.Inner.{told, Scanned}
 use Rattle.cohort.specs.declared.Answer.{Answer}
 use Rattle.cohort.specs.declared.Answer.the-variants.{Accepted, Refused}
 use Rattle.cohort.specs.declared.steps.SoFar.{SoFar}
@@ -33,11 +33,11 @@ use Rattle.cohort.proofs.Populated.{ten-figures, ten-kept}
 
 -- what is said tells the answer
 pub tells : Tells said accept Refused
-tells = record { accepting = λ v. refl; refusing = λ x. refl; told = told }
+tells = record { accepting = λ v. refl; refusing = λ x. refl; told = same }
   where
-    told : (r : Answer) → answer (said r) ≡ r
-    told (Accepted year subjects students population rate) = refl
-    told (Refused x) = ap Refused (refusal-fault x)
+    same : (r : Answer) → answer (said r) ≡ r
+    same (Accepted year subjects students population rate) = refl
+    same (Refused x) = ap Refused (refusal-fault x)
 
 -- each rule that is broken gives a number and place of the paper's table
 told-value : (held : Held) (f : Field) (p : ℕ) → Tabled (valueRules held f p)
@@ -99,11 +99,11 @@ pub stop-owed : (file : List ℕ) (before : Lent) (x : Refusal) → length file 
 stop-owed file before x h w = record { says = sym (ap (mapped valuesOf) (small file h ∙ w)); leaves = refl }
 
 pub go-owed : (file : List ℕ) (before b : Lent) (so : SoFar) → length file ≤ mostBytes → Scanned file before (Go so) b
-    → Promise file before (Accepted (so .year) (so .far .subjects) (so .far .students) (so .population) (so .rate)) b
+    → Promise file before (told so) b
 go-owed file before b so h w =
     let sh = w .shows in
     let e : reading file ≡ accepted (w .held) = small file h ∙ w .read in
     let n : so .far .subjects ≡ subjects (w .held .catalogue) = omega (arith, w .counts .fives) in
-    let values : said (Accepted (so .year) (so .far .subjects) (so .far .students) (so .population) (so .rate)) ≡ accepted (valuesOf (w .held))
+    let values : said (told so) ≡ accepted (valuesOf (w .held))
     = λ i. accepted (record { year = sh .year i; subjects = n i; students = w .counts .number i; population = sh .population i; rate = sh .rate-is i }) in
     record { says = values ∙ sym (ap (mapped valuesOf) e); leaves = sh .laid ∙ sym (ap (λ (o : Outcome Held). written (valuesOr nothing o) before) e) }
