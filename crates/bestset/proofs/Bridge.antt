@@ -9,7 +9,7 @@ use mathlib.Core.List.{List, [], _∷_, _++_}
 use borrow.Author.Tests.{ltb-true, ltb-false, leb-false, eqb-true, ne-eqb, lt-ltb, le-ltb}
 use Rattle.paper.specs.Limits.{mostResults, topScore}
 use Rattle.paper.specs.Lists.{pick, first, some}
-use Rattle.paper.specs.Rulings.{Outcome, accepted, refused, _⇒_, _at_, judged, inTurn}
+use Rattle.paper.specs.Rulings.{Outcome, accepted, refused, _⇒_, _at_, judged}
 use Rattle.paper.specs.Refusals.{fault}
 use Rattle.paper.specs.Words.{_<?_}
 use Rattle.paper.specs.declared.refusal.Refusal.{Refusal}
@@ -35,12 +35,10 @@ use Rattle.results.specs.Counting.{generalAt, appliedAt, strandAt, usable, usab
 use Rattle.results.proofs.Scores.{score-most}
 use Rattle.bestset.specs.Admissible.{NotBoth, identified, OneEach, Admissible}
 use Rattle.bestset.specs.Rules.{resultRules, inputRules, turnRules, repeated, repeatRule, studentRules}
-use Rattle.bestset.specs.Promise.{Values, said, WellFormed, ruling, Answered, RuledBy, Ruled, Promise}
+use Rattle.bestset.specs.Promise.{Values, WellFormed, ruling, Answered, RuledBy, Ruled, Promise}
 use Rattle.bestset.specs.InnerJudging.{readRules, Readable}
-use Rattle.bestset.specs.InnerMarks.{MaskOf, Masked, ByPosition, AllRead, keptIn, repeatedIn}
-use Rattle.bestset.specs.declared.Answer.{Answer}
+use Rattle.bestset.specs.InnerMarks.{MaskOf, ByPosition, AllRead, keptIn, repeatedIn}
 use Rattle.bestset.specs.declared.Answer.the-variants.{Refused}
-use Rattle.bestset.specs.declared.marks.Masks.{Masks}
 use Rattle.bestset.specs.declared.marks.Read.{Read}
 use Rattle.bestset.proofs.Judging.{judges, read-refused, repeat-left}
 use Rattle.bestset.proofs.Marking.{read-most}

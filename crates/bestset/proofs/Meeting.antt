@@ -6,7 +6,7 @@ use mathlib.Core.List.{List, [], _∷_, _++_}
 use lib.Pow.{pow-mono}
 use Rattle.paper.specs.Limits.{mostResults}
 use Rattle.paper.specs.Promises.{Permits}
-use Rattle.paper.specs.Rulings.{Outcome, accepted, refused, _⇒_, _at_, inTurn}
+use Rattle.paper.specs.Rulings.{Outcome, accepted, refused, _⇒_, _at_}
 use Rattle.paper.proofs.Promised as every
 use Rattle.paper.proofs.Ruled.{all-kept, kept-all, kept-parts, Tabled, Refusing, tabled, tabled-join, tabled-turns}
 use Rattle.seek.proofs.Digits.{all-below}
@@ -14,7 +14,7 @@ use Rattle.results.specs.Results.{Student, held}
 use Rattle.results.specs.Counting.{showsEnglish}
 use Rattle.bestset.specs.Admissible.{Admissible}
 use Rattle.bestset.specs.Rules.{resultRules, turnRules, repeatRule, studentRules}
-use Rattle.bestset.specs.Promise.{Values, said, WellFormed, ruling, totalOf, Answered, RuledBy, Ruled, Promise}
+use Rattle.bestset.specs.Promise.{said, WellFormed, ruling, totalOf, Answered, RuledBy, Ruled, Promise}
 use Rattle.bestset.specs.Computed.{Choice, none, one, chosen, admissible, told, decided, computed, answer}
 use Rattle.bestset.specs.declared.Answer.{Answer}
 use Rattle.bestset.proofs.Bridge.{kept-held, few-held}

@@ -1,7 +1,6 @@
 -- The place of a refusal is no greater than the numbers of subjects and results allow.
-use Prim.Native.Nat.{ℕ, _+_, _^_, _≤_, _<_}
+use Prim.Native.Nat.{ℕ, _+_, _^_, _≤_}
 use native.Mathlib.Omega.{arith}
-use mathlib.Core.Path.{_≡_}
 use mathlib.Core.Bool.{not}
 use mathlib.Core.List.{List, [], _∷_, _++_}
 use borrow.Author.Tests.{ltb-true}
@@ -12,7 +11,7 @@ use Rattle.catalogue.specs.Catalogue.{subjects}
 use Rattle.results.specs.Results.{Student, held}
 use Rattle.results.specs.Counting.{showsEnglish}
 use Rattle.bestset.specs.Rules.{resultRules, turnRules, repeatRule, studentRules}
-use Rattle.bestset.specs.Promise.{Values, ruling, totalOf}
+use Rattle.bestset.specs.Promise.{ruling, totalOf}
 use Rattle.bestset.specs.Computed.{Choice, none, one, chosen, admissible, told, decided, computed}
 
 module _ (s : Student) (table : List ℕ) where

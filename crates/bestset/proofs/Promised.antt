@@ -3,7 +3,7 @@ use Prim.Native.Nat.{ℕ}
 use mathlib.Core.Path.{_≡_, refl, sym, ap, ap₂, _∙_}
 use mathlib.Core.List.{List}
 use Rattle.paper.specs.Promises.{Tells}
-use Rattle.paper.specs.Rulings.{Outcome, accepted, refused, _at_}
+use Rattle.paper.specs.Rulings.{Outcome, accepted, refused}
 use Rattle.paper.proofs.Ruled.{refusal-fault}
 use Rattle.seek.specs.InnerTest.{Top}
 use Rattle.seek.proofs.Tops.{one-top}

@@ -10,7 +10,7 @@ use Rattle.catalogue.specs.Kinds.{english, mathematics}
 use Rattle.seek.specs.Sets.{In, has}
 use Rattle.seek.specs.InnerPacking.{valueAt}
 use Rattle.results.specs.Results.{heldIn, subjectOf, yearOf, Student, held, result}
-use Rattle.results.specs.Counting.{ofGeneral, ofApplied, ofStrand, generalAt, appliedAt, strandAt, usable, passes, passesAt, usableAt}
+use Rattle.results.specs.Counting.{ofGeneral, ofApplied, ofStrand, generalAt, appliedAt, strandAt, usable, passes, passesAt}
 use Rattle.results.specs.Scoring.{scoreAt, identityAt}
 use Rattle.results.specs.declared.reading.Result.{Result}
 use Rattle.bestset.specs.Promise.{WellFormed}

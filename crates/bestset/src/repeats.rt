@@ -4,7 +4,7 @@ ghost use Prim.Native.Nat.{_≤_, _<_};
 ghost use Rattle.paper.specs.Limits.{mostResults};
 ghost use Rattle.paper.specs.Lists.{first, some};
 ghost use Rattle.results.specs.Results.{heldIn};
-ghost use Rattle.bestset.specs.InnerMarks.{sameSubjectIn, laterIn, sameYearIn, repeatedIn, keptIn, MaskOf};
+ghost use Rattle.bestset.specs.InnerMarks.{sameSubjectIn, laterIn, repeatedIn, keptIn, MaskOf};
 use crate::marks;
 use paper::limits::RESULT_BYTES;
 use results::reading;

@@ -1,12 +1,12 @@
 -- The inner calls of ranks and bands never refuse, and the table is drawn.
 use Prim.Native.Nat.{ℕ, _≤_, _<_}
 use native.Mathlib.Omega.{arith}
-use mathlib.Core.Path.{_≡_, refl, sym, ap, subst, _∙_}
+use mathlib.Core.Path.{_≡_, refl, ap, subst, _∙_}
 use mathlib.Core.Bool.{Bool, false}
 use mathlib.Core.List.{List, _++_}
 use lib.ListN.{length, getD}
 use lib.Seq.{take-at}
-use borrow.Author.Tests.{le-ltb, eq-eqb, ne-eqb}
+use borrow.Author.Tests.{le-ltb, eq-eqb}
 use Rattle.paper.specs.Limits.{mostAggregate, bandCount, mostStudents, mostValues, mostPopulation, mostEntry, leastRate, mostRate}
 use Rattle.paper.specs.Lists.{over, someOver, pick}
 use Rattle.paper.specs.Rulings.{accepted}

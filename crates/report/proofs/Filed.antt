@@ -1,8 +1,8 @@
 -- What a file that is read leaves in the buffers is what is listed.
-use Prim.Native.Nat.{ℕ, zero, suc, _+_, _*_, _≤_, _<_}
+use Prim.Native.Nat.{ℕ, zero, suc, _*_, _≤_, _<_}
 use native.Mathlib.Omega.{arith}
 use mathlib.Core.Path.{_≡_, refl, sym, ap, subst, _∙_}
-use mathlib.Core.List.{List, [], _∷_, _++_}
+use mathlib.Core.List.{List, [], _∷_}
 use lib.ListN.{length, getD, take, drop, replicate, length-replicate}
 use Rattle.paper.specs.Limits.{entryBytes, rowBytes, mostSubjects, mostResults, figureCount, mostStudents, catalogueBytes, tableBytes, resultsBytes}
 use Rattle.paper.specs.Rulings.{Outcome, accepted, refused, numberOf, placeOf, mapped, valuesOr}

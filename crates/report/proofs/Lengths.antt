@@ -1,9 +1,9 @@
 -- The text of a file of bytes has at most 64 bytes for each student and for the cohort, and so fits, whatever is lent.
-use Prim.Native.Nat.{ℕ, suc, _+_, _*_, _<_, _≤_}
+use Prim.Native.Nat.{ℕ, _+_, _*_, _<_, _≤_}
 use native.Mathlib.Omega.{arith}
 use native.Mathlib.Decide.{decLt}
-use mathlib.Core.Path.{_≡_, refl, sym, ap, subst, _∙_}
-use mathlib.Core.List.{List, [], _∷_, _++_}
+use mathlib.Core.Path.{_≡_, refl}
+use mathlib.Core.List.{List, [], _∷_}
 use lib.ListN.{length, getD, length-append, List·getD-eq-default}
 use Rattle.paper.specs.Limits.{mostStudents, mostBytes, mostResults, mostSubjects}
 use Rattle.paper.specs.Bytes.{byte}
@@ -28,7 +28,7 @@ use Rattle.cohort.proofs.Holding.{sound}
 use Rattle.cohort.proofs.Promised.{told-reading}
 use Rattle.cohort.proofs.Within.{ShortId, place-within, short-ids}
 use Rattle.report.specs.Sizes.{textBytes}
-use Rattle.report.specs.Report.{outcome, outcomeOf, aggregatesOf, withAggregate, eligibleOf, Columns, columnsOf, eligibleLine, lineOf, afterOne, linesOf, participation, textOfOutcome, textOf}
+use Rattle.report.specs.Report.{outcome, outcomeOf, eligibleOf, Columns, columnsOf, eligibleLine, lineOf, afterOne, linesOf, participation, textOfOutcome, textOf}
 use Rattle.report.proofs.Bounded.{aggregates-most}
 use Rattle.report.proofs.Few.{eligible-within, remainder-within}
 

@@ -1,7 +1,7 @@
 -- A listing is whole lines: each ends in a line feed.
 use Prim.Native.Nat.{ℕ}
 use mathlib.Core.Path.{_≡_, refl, sym, ap, subst, _∙_}
-use mathlib.Core.Logic.{_⊎_, inl, inr}
+use mathlib.Core.Logic.{inl, inr}
 use mathlib.Core.List.{List, [], _∷_, _++_, append-assoc, append-nil}
 use lib.ListN.{getD}
 use Rattle.paper.specs.Rulings.{Outcome, accepted, refused, numberOf, placeOf}

@@ -10,7 +10,6 @@ use Rattle.paper.specs.Words.{_=?_, if_then_else_}
 use Rattle.results.specs.Results.{student}
 use Rattle.bestset.specs.Promise.{Values}
 use Rattle.bestset.specs.Computed.{computed}
-use Rattle.curve.specs.Curve.{tableOf}
 use Rattle.bands.specs.Placing.{remainder}
 use Rattle.cohort.specs.Held.{Enrolled}
 use Rattle.listing.specs.Lines.{cohortLine, studentLine, refusedLine, lineBytes}

@@ -1,9 +1,7 @@
 // Results and scores, and the slots of the lent score table.
 ghost use mathlib.Core.Path.{_≡_};
-ghost use mathlib.Core.Bool.{_&&_};
 ghost use Prim.Native.Nat.{_+_, _/_, _≤_};
 ghost use Rattle.paper.specs.Limits.{slots, slotBytes, rowBytes};
-ghost use Rattle.paper.specs.Words.{_<?_};
 ghost use Rattle.paper.specs.Ranges.{within};
 ghost use Rattle.scores.specs.Scores.{slotIn, inRow, valued, found, letterSlot, slotOf};
 ghost use Rattle.scores.specs.Promise.{looked};

@@ -12,7 +12,7 @@ use lib.Pow.{pow-pos, pow-mono, split, shr-shr, high, shl-exact}
 use lib.Bits.{bitAnd, and-step, and-high, and-shr, and-zero-l, and-le-l, block-half, block-odd}
 use lib.Count.{ones, onesIn, ones-step}
 use Rattle.paper.specs.Lists.{pick}
-use Rattle.paper.specs.Limits.{members, mostResults}
+use Rattle.paper.specs.Limits.{mostResults}
 use Rattle.seek.specs.Sets.{bit, In, has, joined, onesFrom, positions, sumOver, countOver, comesTo}
 
 -- ---- one bit

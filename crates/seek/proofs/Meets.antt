@@ -9,7 +9,7 @@ use lib.Bits.{bitAnd}
 use lib.Count.{ones}
 use lib.Dec.{ltb}
 use borrow.Author.Tests.{ltb-true, ltb-false}
-use Rattle.paper.specs.Limits.{members, mostResults}
+use Rattle.paper.specs.Limits.{mostResults}
 use Rattle.seek.specs.Sets.{has, positions, countOver}
 use Rattle.seek.specs.InnerTest.{Apart, Decides, Beats}
 use Rattle.seek.specs.declared.search.Lead.{Lead}

@@ -11,7 +11,7 @@ use lib.ListN.{length}
 use lib.Arith.{lt-one, bin-ind}
 use lib.Pow.{pow-pos, split, mod-pow-add}
 use lib.Count.{ones, ones-step, ones-cat}
-use Rattle.paper.specs.Limits.{members, mostResults}
+use Rattle.paper.specs.Limits.{mostResults}
 use Rattle.seek.specs.Sets.{onesFrom, positions, Earlier}
 use Rattle.seek.specs.InnerSearch.{key}
 use Rattle.seek.proofs.Digits.{digit, ones-from-0, ones-from-1, same-positions}

@@ -1,11 +1,11 @@
 -- Sets of results, what a set comes to, and which of two comes first. A set is a number below 2 ^ mostResults, bit i for result i.
-use Prim.Native.Nat.{ℕ, zero, suc, _+_, _/_, _%_, _^_, _≤_, _<_}
+use Prim.Native.Nat.{ℕ, zero, suc, _+_, _/_, _%_, _^_, _<_}
 use mathlib.Core.Path.{_≡_}
 use mathlib.Core.Logic.{_⊎_}
 use mathlib.Core.Bool.{Bool}
 use mathlib.Core.List.{List, [], _∷_}
 use Rattle.paper.specs.Words.{_=?_, if_then_else_}
-use Rattle.paper.specs.Limits.{members, mostResults}
+use Rattle.paper.specs.Limits.{mostResults}
 
 -- bit i of a set: 1 if result i is a member, 0 if not
 abbrev pub bit : ℕ → ℕ → ℕ

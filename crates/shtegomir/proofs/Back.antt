@@ -1,7 +1,7 @@
 -- What C gets tells the outcome back: two outcomes of the paper's table with one struct are equal. And how C reads it.
 use Prim.Native.Nat.{ℕ, _≤_}
 use native.Mathlib.Omega.{arith}
-use mathlib.Core.Path.{_≡_, refl, sym, ap, subst, _∙_}
+use mathlib.Core.Path.{_≡_, refl, ap}
 use Rattle.paper.specs.Rulings.{Fault, _at_, Outcome, accepted, refused, valuesOr, numberOf, placeOf}
 use Rattle.paper.proofs.Ruled.{Refusing, some-number}
 use Rattle.bestset.specs.Promise.{Values as BestValues}
@@ -14,8 +14,6 @@ use Rattle.shtegomir.specs.Text.{flatText}
 use Rattle.shtegomir.specs.declared.telling.Told.{Told}
 use Rattle.shtegomir.specs.declared.best.Best.{Best}
 use Rattle.shtegomir.specs.declared.participation.Curve.{Curve}
-use Rattle.shtegomir.specs.declared.placing.Placed.{Placed}
-use Rattle.shtegomir.specs.declared.text.Text.{Text}
 
 -- a fault is its number and its place
 same-fault : (f g : Fault) → numberOf f ≡ numberOf g → placeOf f ≡ placeOf g → f ≡ g

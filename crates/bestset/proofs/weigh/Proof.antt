@@ -6,7 +6,6 @@ use Rattle.bestset.proofs.Usable.{none-shown, some-shown}
 use Rattle.bestset.proofs.Judging.{few-read}
 use Rattle.results.specs.Results.{Student, student}
 use Rattle.bestset.specs.Promise.{WellFormed}
-use borrow.Author.Needs.{needs}
 use Rattle.bestset.proofs.weigh.Statement.{statement}
 use Rattle.bestset.proofs.weigh.Tie as tie
 use Rattle.bestset.proofs.choose.Reads as choose-reads

@@ -1,8 +1,8 @@
 use borrow.Rule.Slice.PartMut.{putMid}
 use lib.Seq.{length-take-le}
-use lib.ListN.{length, take}
-use mathlib.Core.Path.{_≡_, refl, sym, ap, _∙_}
-use Prim.Native.Nat.{ℕ, _+_, _-_, _≤_}
+use lib.ListN.{length}
+use mathlib.Core.Path.{_≡_, refl, sym}
+use Prim.Native.Nat.{_-_, _≤_}
 use native.Mathlib.Omega.{arith}
 use borrow.Author.Needs.{needs}
 use Rattle.estimate.proofs.read_input.Statement.{statement}

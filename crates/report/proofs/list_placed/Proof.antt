@@ -2,8 +2,6 @@ use Rattle.report.proofs.Puts.{put-more, shows-own, shown-short}
 use Rattle.report.specs.Inner.{columns, linesKept, Put}
 use lib.ListN.{length}
 use Rattle.listing.specs.Lines.{cohortLine}
-use Prim.Native.Nat.{ℕ}
-use mathlib.Core.List.{List}
 use mathlib.Core.Path.{subst}
 use native.Mathlib.Omega.{arith}
 use borrow.Author.Needs.{needs}

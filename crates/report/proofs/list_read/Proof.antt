@@ -1,8 +1,7 @@
 use Rattle.report.proofs.Keeping.{listed-told}
 use Rattle.report.proofs.Few.{remainder-within}
 use Rattle.report.proofs.Bounded.{collected-placeable}
-use Rattle.report.specs.Inner.{studentsIn, listedKept, Put}
-use Rattle.report.specs.Report.{outcome}
+use Rattle.report.specs.Inner.{listedKept, Put}
 use Rattle.curve.specs.Curve.{tableOf}
 use Rattle.paper.specs.Limits.{mostStudents}
 use Prim.Native.Nat.{ℕ}

@@ -1,7 +1,5 @@
 use Rattle.bestset.proofs.Marking.{masked-none, masked-one, read-none, read-next}
-use Rattle.bestset.specs.declared.marks.Masks.{Masks}
 use Rattle.bestset.specs.InnerMarks.{Masked, ByPosition, withOne}
-use Rattle.scores.specs.Scores.{Found}
 use Rattle.results.specs.declared.reading.Result.{Result}
 use Rattle.results.specs.Scoring.{worth, score, scoreAt, ownIdentity, identityAt}
 use Rattle.results.specs.Results.{heldIn, Student, student, held, result}

@@ -1,4 +1,4 @@
-use Rattle.paper.specs.Words.{_<?_, _=?_}
+use Rattle.paper.specs.Words.{_<?_}
 use Rattle.results.specs.Results.{yearOf}
 use Rattle.bestset.specs.InnerMarks.{sameSubjectIn, laterIn}
 use Rattle.results.specs.Results.{heldIn}
@@ -6,9 +6,9 @@ use Rattle.paper.proofs.Firsts.{some-has, none-has}
 use Rattle.paper.proofs.Booleans.{true-both, not-both, first-false}
 use borrow.Author.Count.{below-more}
 use native.Mathlib.Omega.{arith}
-use mathlib.Core.Path.{_≡_, sym, ap, _∙_}
+use mathlib.Core.Path.{_≡_, sym, _∙_}
 use mathlib.Core.Logic.{⊎-elim}
-use mathlib.Core.Bool.{Bool, false, _&&_}
+use mathlib.Core.Bool.{false}
 use Prim.Native.Nat.{ℕ, _-_, _≤_, _<_}
 use borrow.Author.Needs.{needs}
 use Rattle.bestset.proofs.repeats.replaced.Statement.{statement}

@@ -1,7 +1,7 @@
-use Prim.Native.Nat.{ℕ, _≤_}
+use Prim.Native.Nat.{_≤_}
 use native.Mathlib.Omega.{arith}
 use native.Mathlib.Nat.{mod-lt}
-use mathlib.Core.Path.{_≡_, sym, ap, _∙_}
+use mathlib.Core.Path.{sym, ap, _∙_}
 use Rattle.paper.specs.Rounding.{nearest}
 use Rattle.paper.proofs.Rounded.{nearest-none, nearest-down, nearest-up, one-more}
 use borrow.Author.Needs.{needs}

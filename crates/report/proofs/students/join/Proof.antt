@@ -1,5 +1,5 @@
 use native.Mathlib.Numerals.{add-one}
-use mathlib.Core.Path.{_≡_, refl, sym, ap, subst, _∙_}
+use mathlib.Core.Path.{sym, ap, _∙_}
 use Rattle.bestset.specs.declared.Answer.{Answer}
 use Rattle.bestset.specs.Promise.{said}
 use Rattle.report.specs.Inner.{joined}
