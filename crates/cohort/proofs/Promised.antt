@@ -23,7 +23,7 @@ use Rattle.cohort.specs.Held.{Held, nothing, idsOf}
 use Rattle.cohort.specs.Taking.{figuresIn}
 use Rattle.cohort.specs.Judging.{valueRules, yearRules, subjectRules, scoreRules, figuresRules, studentRules}
 use Rattle.cohort.specs.Reading.{Reader, opened, passed, fieldRules, after, readAll, ended, body, reading}
-use Rattle.cohort.specs.Promise.{said, valuesOf, Lent, written, ruling, Promise, accept, answer, left}
+use Rattle.cohort.specs.Promise.{said, summaryOf, Lent, written, ruling, Promise, answer, left}
 use Rattle.cohort.specs.Inner.{told, Scanned}
 use Rattle.cohort.specs.declared.Answer.{Answer}
 use Rattle.cohort.specs.declared.Answer.the-variants.{Accepted, Refused}
@@ -32,11 +32,11 @@ use Rattle.cohort.specs.declared.steps.Step.the-variants.{Go}
 use Rattle.cohort.proofs.Populated.{ten-figures, ten-kept}
 
 -- what is said tells the answer
-pub tells : Tells said accept Refused
+pub tells : Tells said Accepted Refused
 tells = record { accepting = λ v. refl; refusing = λ x. refl; told = same }
   where
     same : (r : Answer) → answer (said r) ≡ r
-    same (Accepted year subjects students population rate) = refl
+    same (Accepted v) = refl
     same (Refused x) = ap Refused (refusal-fault x)
 
 -- each rule that is broken gives a number and place of the paper's table
@@ -76,7 +76,7 @@ told-reading file = go (ltb mostBytes (length file))
 module _ (file : List ℕ) (before : Lent) where
   -- the computed answer and buffers are permitted
   pub meets : Promise file before (answer (ruling file)) (left file before (ruling file))
-  meets = every.meets tells every.rules-is every.owes-equal (refusing-mapped valuesOf (reading file) (told-reading file))
+  meets = every.meets tells every.rules-is every.owes-equal (refusing-mapped summaryOf (reading file) (told-reading file))
 
   -- and no others
   pub only : {r : Answer} {after : Lent} → Promise file before r after → (r ≡ answer (ruling file)) × (after ≡ left file before (ruling file))
@@ -96,14 +96,14 @@ unfolding reading
 large-owed file before h = record { says = simp (lt-ltb _ _ h); leaves = refl }
 
 pub stop-owed : (file : List ℕ) (before : Lent) (x : Refusal) → length file ≤ mostBytes → body file ≡ refused (fault x) → Promise file before (Refused x) before
-stop-owed file before x h w = record { says = sym (ap (mapped valuesOf) (small file h ∙ w)); leaves = refl }
+stop-owed file before x h w = record { says = sym (ap (mapped summaryOf) (small file h ∙ w)); leaves = refl }
 
 pub go-owed : (file : List ℕ) (before b : Lent) (so : SoFar) → length file ≤ mostBytes → Scanned file before (Go so) b
-    → Promise file before (told so) b
+    → Promise file before (Accepted (told so)) b
 go-owed file before b so h w =
     let sh = w .shows in
     let e : reading file ≡ accepted (w .held) = small file h ∙ w .read in
     let n : so .far .subjects ≡ subjects (w .held .catalogue) = omega (arith, w .counts .fives) in
-    let values : said (told so) ≡ accepted (valuesOf (w .held))
+    let values : said (Accepted (told so)) ≡ accepted (summaryOf (w .held))
     = λ i. accepted (record { year = sh .year i; subjects = n i; students = w .counts .number i; population = sh .population i; rate = sh .rate-is i }) in
-    record { says = values ∙ sym (ap (mapped valuesOf) e); leaves = sh .laid ∙ sym (ap (λ (o : Outcome Held). written (valuesOr nothing o) before) e) }
+    record { says = values ∙ sym (ap (mapped summaryOf) e); leaves = sh .laid ∙ sym (ap (λ (o : Outcome Held). written (valuesOr nothing o) before) e) }

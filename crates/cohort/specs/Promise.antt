@@ -11,25 +11,18 @@ use Rattle.catalogue.specs.Catalogue.{subjects}
 use Rattle.curve.specs.Population.{Y, rate}
 use Rattle.cohort.specs.Held.{Held, nothing, idsOf, countsOf, resultsOf}
 use Rattle.cohort.specs.Reading.{reading}
+use Rattle.cohort.specs.declared.Summary.{Summary}
 use Rattle.cohort.specs.declared.Answer.{Answer}
 use Rattle.cohort.specs.declared.Answer.the-variants.{Accepted, Refused}
 
-pub record Values : Type 0 where
-  pub year : ℕ
-  pub subjects : ℕ
-  pub students : ℕ
-  pub population : ℕ
-  pub rate : ℕ
-
 -- the paper's values, or number and place, of each case of the answer
-abbrev pub said : Answer → Outcome Values
-said (Accepted year subjects students population rate) =
-    accepted (record { year = year; subjects = subjects; students = students; population = population; rate = rate })
+abbrev pub said : Answer → Outcome Summary
+said (Accepted v) = accepted v
 said (Refused x) = refused (fault x)
 
 -- the year; how many subjects and students there are; Y and r
-abbrev pub valuesOf : Held → Values
-valuesOf held = record {
+abbrev pub summaryOf : Held → Summary
+summaryOf held = record {
   year = held .year;
   subjects = subjects (held .catalogue);
   students = length (held .students);
@@ -61,8 +54,8 @@ written held before = record {
 }
 
 -- the ruling: what is held has these values
-abbrev pub ruling : List ℕ → Outcome Values
-ruling file = mapped valuesOf (reading file)
+abbrev pub ruling : List ℕ → Outcome Summary
+ruling file = mapped summaryOf (reading file)
 
 -- what a file that is accepted holds, in the buffers
 abbrev pub holding : List ℕ → Lent → Lent
@@ -73,11 +66,8 @@ abbrev pub Promise : List ℕ → Lent → Answer → Lent → Type 0
 Promise file before r after = Promised said (Is (ruling file)) (λ v lent. lent ≡ holding file before) before r after
 
 -- the answer and the buffers of an outcome, computed
-abbrev pub accept : Values → Answer
-accept v = Accepted (v .year) (v .subjects) (v .students) (v .population) (v .rate)
+abbrev pub answer : Outcome Summary → Answer
+answer = answered Accepted Refused
 
-abbrev pub answer : Outcome Values → Answer
-answer = answered accept Refused
-
-abbrev pub left : List ℕ → Lent → Outcome Values → Lent
+abbrev pub left : List ℕ → Lent → Outcome Summary → Lent
 left file before = filled (λ v. holding file before) before

@@ -17,8 +17,9 @@ use Rattle.listing.specs.Lines.{fileLine}
 use Rattle.cohort.specs.Held.{Enrolled, Held, nothing, idsOf, countsOf, resultsOf}
 use Rattle.cohort.specs.Meaning.{Each, FewResults, Sound}
 use Rattle.cohort.specs.Reading.{reading}
-use Rattle.cohort.specs.Promise.{Values, said, Lent, lent, written, valuesOf, Promise}
+use Rattle.cohort.specs.Promise.{said, Lent, lent, written, summaryOf, Promise}
 use Rattle.cohort.specs.Inner.{Sized}
+use Rattle.cohort.specs.declared.Summary.{Summary}
 use Rattle.cohort.specs.declared.Answer.{Answer}
 use Rattle.cohort.specs.declared.Answer.the-variants.{Refused}
 use Rattle.cohort.proofs.Holding.{sound}
@@ -30,7 +31,7 @@ use Rattle.report.specs.Inner.{studentsIn, Read}
 use Rattle.report.proofs.Standing.{stand}
 
 -- a refused file
-abbrev faultLine : Outcome Values → List ℕ
+abbrev faultLine : Outcome Summary → List ℕ
 faultLine (accepted v) = []
 faultLine (refused f) = fileLine (numberOf f) (placeOf f)
 
@@ -39,7 +40,7 @@ pub refused-text : (file : List ℕ) (old : Lent) (r : Answer) (new : Lent) (x :
 unfolding textOf
 refused-text file old r new x e h = go (reading file) (ap said (sym e) ∙ h .says)
   where
-    go : (o : Outcome Held) → refused (fault x) ≡ mapped valuesOf o → fileLine (numberOf (fault x)) (placeOf (fault x)) ≡ textOfOutcome o
+    go : (o : Outcome Held) → refused (fault x) ≡ mapped summaryOf o → fileLine (numberOf (fault x)) (placeOf (fault x)) ≡ textOfOutcome o
     go (accepted held) w = absurd (let z : _≡_ {A = ℕ} 0 1 = cc in omega arith)
     go (refused f) w = ap faultLine w
 
@@ -53,16 +54,16 @@ zeros-sized =
     record { catalogue = long catalogueBytes; table = long tableBytes; figures = long figureCount; ids = long mostStudents; counts = long mostStudents; results = long resultsBytes }
 
 -- an accepted file: what it holds, what the answer says of it, and the buffers
-pub record Taken (file : List ℕ) (old new : Lent) (v : Values) : Type 0 where
+pub record Taken (file : List ℕ) (old new : Lent) (v : Summary) : Type 0 where
   pub held : Held
   pub reads : reading file ≡ accepted held
-  pub values : v ≡ valuesOf held
+  pub values : v ≡ summaryOf held
   pub left : new ≡ written held old
 
-pub taken : (file : List ℕ) (old : Lent) (r : Answer) (new : Lent) (v : Values) → said r ≡ accepted v → Promise file old r new → Taken file old new v
+pub taken : (file : List ℕ) (old : Lent) (r : Answer) (new : Lent) (v : Summary) → said r ≡ accepted v → Promise file old r new → Taken file old new v
 taken file old r new v e h = go (reading file) refl (sym e ∙ h .says)
   where
-    go : (o : Outcome Held) → reading file ≡ o → accepted v ≡ mapped valuesOf o → Taken file old new v
+    go : (o : Outcome Held) → reading file ≡ o → accepted v ≡ mapped summaryOf o → Taken file old new v
     go (accepted held) s w =
         record { held = held; reads = s; values = ap (valuesOr v) w; left = left-as (sym (h .says) ∙ e) h ∙ ap (λ (o : Outcome Held). written (valuesOr nothing o) old) s }
     go (refused f) s w = absurd (let z : _≡_ {A = ℕ} 0 1 = cc in omega arith)
@@ -72,7 +73,7 @@ few-counts [] i h l = absurd (omega arith)
 few-counts (s ∷ ss) zero h l = h .0 .1
 few-counts (s ∷ ss) (suc i) h l = few-counts ss i (h .1) (omega arith)
 
-module _ (file : List ℕ) (old new : Lent) (v : Values) (b : Sized old) (w : Taken file old new v) where
+module _ (file : List ℕ) (old new : Lent) (v : Summary) (b : Sized old) (w : Taken file old new v) where
   abbrev so : Held
   so = w .held
 
@@ -80,10 +81,10 @@ module _ (file : List ℕ) (old new : Lent) (v : Values) (b : Sized old) (w : Ta
   good = sound file so (w .reads)
 
   number : v .subjects ≡ subjects (so .catalogue)
-  number = ap (λ (v : Values). v .subjects) (w .values)
+  number = ap (λ (v : Summary). v .subjects) (w .values)
 
   pupils : v .students ≡ length (so .students)
-  pupils = ap (λ (v : Values). v .students) (w .values)
+  pupils = ap (λ (v : Summary). v .students) (w .values)
 
   pub few-subjects : v .subjects ≤ mostSubjects
   few-subjects = omega (arith, number, good .few-subjects)
@@ -120,8 +121,8 @@ module _ (file : List ℕ) (old new : Lent) (v : Values) (b : Sized old) (w : Ta
   pub ready : (text : List ℕ) → length text ≡ textBytes → Read (v .rate) (v .population) (take (v .students) (new .ids)) (take (v .students) (new .counts)) (new .results) text
   ready text room =
       let people = counted (so .figures) (Y (so .figures)) (rate (so .figures)) (record { says = sym (good .population); leaves = tt }) in
-      let r : v .rate ≡ rate (so .figures) = ap (λ (v : Values). v .rate) (w .values) in
-      let y : v .population ≡ Y (so .figures) = ap (λ (v : Values). v .population) (w .values) in
+      let r : v .rate ≡ rate (so .figures) = ap (λ (v : Summary). v .rate) (w .values) in
+      let y : v .population ≡ Y (so .figures) = ap (λ (v : Summary). v .population) (w .values) in
       record {
         populated = record { least-rate = omega (arith, people .least-rate); most-rate = omega (arith, people .most-rate); some = omega (arith, people .some); most = omega (arith, people .most) };
         ids-long = ap length ids-are ∙ length-ids (so .students) ∙ sym (ap length counts-are ∙ length-counts (so .students));

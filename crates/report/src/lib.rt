@@ -7,6 +7,7 @@ ghost use Rattle.report.specs.Report.{outcome, listed, textOf};
 ghost use Rattle.report.specs.Inner.{studentsIn, listedKept, Ready, Read, Put};
 ghost use Rattle.report.specs.Promise.{Promise};
 use crate::placing::Placed;
+use cohort::Summary;
 use paper::limits::CATALOGUE_BYTES;
 use paper::limits::ENTRY_BYTES;
 use paper::limits::FIGURE_COUNT;
@@ -30,13 +31,6 @@ pub enum Answer {
 // The bytes of a lent text buffer.
 pub const TEXT_BYTES: usize = 65536;
 
-// What is read of a file beside the buffers: the year, Y and r.
-struct Told {
-    year: u16,
-    population: u32,
-    rate: u32,
-}
-
 // The cohort's line, with n eligible students, then a line per student. Answers where the text ends.
 fn list_placed(
     ids: &[u32],
@@ -57,7 +51,7 @@ fn list_placed(
 
 // Lists a cohort that was read: each student's outcome once, the eligible ranked and placed, the lines. Answers where the text ends.
 fn list_read(
-    told: Told,
+    read: Summary,
     catalogue: &[u8],
     table: &[u8],
     ids: &[u32],
@@ -65,9 +59,9 @@ fn list_read(
     results: &[u8],
     text: &mut [u8],
 ) -> usize
-    requires { ⌜ Read (told .rate) (told .population) (now ids) (now counts) (now results) (now text) ⌝ }
+    requires { ⌜ Read (read .rate) (read .population) (now ids) (now counts) (now results) (now text) ⌝ }
     ensures { λ r. ⌜ Put (now (text .entry)) (now (text .exit)) 0 r
-        (listed (outcome (now (catalogue .entry)) (now (table .entry)) (told .year)) (tableOf (told .rate)) (told .population)
+        (listed (outcome (now (catalogue .entry)) (now (table .entry)) (read .year)) (tableOf (read .rate)) (read .population)
         (studentsIn (length (now (counts .entry))) (now (ids .entry)) (now (counts .entry)) (now (results .entry)))) ⌝ }
 {
     let students = counts.len();
@@ -77,14 +71,14 @@ fn list_read(
     let n = students::collect(
         catalogue,
         table,
-        told.year as u64,
+        read.year as u64,
         counts,
         results,
         &mut aggregates,
         &mut numbers[..students],
         &mut places[..students],
     );
-    let placed = placing::place(told.rate, told.population, &aggregates[..n]);
+    let placed = placing::place(read.rate, read.population, &aggregates[..n]);
     list_placed(
         ids,
         &numbers[..students],
@@ -118,21 +112,12 @@ fn list_file(file: &[u8], text: &mut [u8]) -> usize
     );
     match read {
         cohort::Answer::Refused(x) => writing::append(text, 0, listing::file_line(x)),
-        cohort::Answer::Accepted {
-            year,
-            subjects,
-            students,
-            population,
-            rate,
-        } => {
-            let c = ENTRY_BYTES * subjects;
-            let t = ROW_BYTES * subjects;
+        cohort::Answer::Accepted(summary) => {
+            let c = ENTRY_BYTES * summary.subjects;
+            let t = ROW_BYTES * summary.subjects;
+            let students = summary.students;
             list_read(
-                Told {
-                    year,
-                    population,
-                    rate,
-                },
+                summary,
                 &catalogue[..c],
                 &table[..t],
                 &ids[..students],

@@ -11,7 +11,7 @@ use Rattle.paper.proofs.Ruled.{all-kept, given-values}
 use Rattle.bands.specs.Placing.{remainder}
 use Rattle.bands.specs.Promise.{said, sizeRules, countsRule, tableRules, aggregateRules, Promise, Lent, TallyPromise}
 use Rattle.bands.specs.declared.Answer.{Answer}
-use Rattle.report.proofs.Joined.{remainder-within}
+use Rattle.report.proofs.Few.{remainder-within}
 
 -- of what the rules of either entry permit to be said, at most as many as its limit
 few : (limit : ℕ) (aggregates table : List ℕ) (Y bands : ℕ) (more : List Rule) (o : Outcome ℕ)

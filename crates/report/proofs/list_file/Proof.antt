@@ -2,7 +2,8 @@ use Rattle.report.proofs.Puts.{shows-own}
 use Rattle.report.proofs.Filed.{refused-text, Taken, zeros, zeros-sized, taken, few-subjects, few-students, sized, ready, accepted-text}
 use Rattle.report.specs.Inner.{Put}
 use Rattle.cohort.specs.Inner.{Sized}
-use Rattle.cohort.specs.Promise.{Values, said, Lent, lent}
+use Rattle.cohort.specs.Promise.{said, Lent, lent}
+use Rattle.cohort.specs.declared.Summary.{Summary}
 use Rattle.paper.specs.Limits.{entryBytes, rowBytes}
 use lib.Seq.{length-take-le}
 use mathlib.Core.Path.{sym, ap, subst, _∙_}
@@ -22,8 +23,8 @@ begun c = c .before .before .before .before .before .before .before .before .bef
 abbrev left : tie.After-read → Lent
 left c = let l = c .read .last in lent (l .1 .0) (l .1 .1 .0) (l .1 .1 .1 .0) (l .1 .1 .1 .1 .0) (l .1 .1 .1 .1 .1 .0) (l .1 .1 .1 .1 .1 .1 .0)
 
-abbrev values : tie.After-known-told2 → Values
-values c = let g = c .before .read3 .given .0 in record { year = g .0; subjects = g .1 .0; students = g .1 .1 .0; population = g .1 .1 .1 .0; rate = g .1 .1 .1 .1 .0 }
+abbrev values : tie.After-known-told2 → Summary
+values c = c .before .read3 .given .0 .0
 
 abbrev after : tie.After-known-told2 → Lent
 after c = left (c .before .before .before)
@@ -56,53 +57,57 @@ enum-known-read-2 : tie.Need-enum-known-read-2
 enum-known-read-2 c = search needs
 
 mul-c : tie.Need-mul-c
-mul-c c = let w = subjects-few c in search needs
+mul-c c = let w = subjects-few (c .before) in search needs
 
 mul-t : tie.Need-mul-t
-mul-t c = let w = subjects-few c in search needs
+mul-t c = let w = subjects-few (c .before .before) in search needs
 
 array-share-prefix-catalogue : tie.Need-array-share-prefix-catalogue
-array-share-prefix-catalogue c = omega (arith, subjects-few c, long c .catalogue)
+array-share-prefix-catalogue c =
+    let d = c .before .before in
+    omega (arith, subjects-few d, long d .catalogue)
 
 slice-aggregate-list-read : tie.Need-slice-aggregate-list-read
 slice-aggregate-list-read c =
-    let d = c .before in
+    let d = c .before .before .before in
     sym (length-take-le (entryBytes * values d .subjects) (after d .catalogue) (omega (arith, subjects-few d, long d .catalogue)))
 
 array-share-prefix-table : tie.Need-array-share-prefix-table
-array-share-prefix-table c = omega (arith, subjects-few (c .before), long (c .before) .table)
+array-share-prefix-table c =
+    let d = c .before .before .before in
+    omega (arith, subjects-few d, long d .table)
 
 slice-aggregate-list-read-2 : tie.Need-slice-aggregate-list-read-2
 slice-aggregate-list-read-2 c =
-    let d = c .before .before in
+    let d = c .before .before .before .before in
     sym (length-take-le (rowBytes * values d .subjects) (after d .table) (omega (arith, subjects-few d, long d .table)))
 
 array-share-prefix-ids : tie.Need-array-share-prefix-ids
 array-share-prefix-ids c =
-    let d = c .before .before in
+    let d = c .before .before .before .before in
     omega (arith, students-few d, long d .ids)
 
 slice-aggregate-list-read-3 : tie.Need-slice-aggregate-list-read-3
 slice-aggregate-list-read-3 c =
-    let d = c .before .before .before in
+    let d = c .before .before .before .before .before in
     sym (length-take-le (values d .students) (after d .ids) (omega (arith, students-few d, long d .ids)))
 
 array-share-prefix-counts : tie.Need-array-share-prefix-counts
 array-share-prefix-counts c =
-    let d = c .before .before .before in
+    let d = c .before .before .before .before .before in
     omega (arith, students-few d, long d .counts)
 
 slice-aggregate-list-read-4 : tie.Need-slice-aggregate-list-read-4
 slice-aggregate-list-read-4 c =
-    let d = c .before .before .before .before in
+    let d = c .before .before .before .before .before .before in
     sym (length-take-le (values d .students) (after d .counts) (omega (arith, students-few d, long d .counts)))
 
 slice-aggregate-list-read-5 : tie.Need-slice-aggregate-list-read-5
-slice-aggregate-list-read-5 c = sym (long (c .before .before .before .before .before) .results)
+slice-aggregate-list-read-5 c = sym (long (c .before .before .before .before .before .before .before) .results)
 
 list-read-requires : tie.Need-list-read-requires
 list-read-requires c κs =
-    let d = c .before .before .before .before .before .before in
+    let d = c .before .before .before .before .before .before .before .before in
     ready _ zeros (after d) (values d) zeros-sized (told d) (begun (d .before .before .before) .args .text .now) (begun (d .before .before .before) .pre)
 
 same-length : tie.Need-same-length
@@ -120,7 +125,7 @@ same-length-2 c = search needs
 
 returns-2 : tie.Need-returns-2
 returns-2 c =
-    let d = c .before .before .before .before .before .before .before .before .before in
+    let d = c .before .before .before .before .before .before .before .before .before .before .before in
     subst (Put (begun (d .before .before .before) .args .text .now) (c .before .before .list-read .last .1 .1 .1 .1 .1 .1 .0) 0 (c .before .before .list-read .result)) (accepted-text _ zeros (after d) (values d) zeros-sized (told d)) (c .before .before .list-read .ensures)
 
 pub list-file-spec : {M : Type 1} → statement M

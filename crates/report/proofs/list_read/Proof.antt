@@ -68,7 +68,7 @@ place-requires : tie.Need-place-requires
 place-requires c κs =
     let d = c .before .before .before .before in
     let a = begun d .args in
-    collected-placeable (a .catalogue .now) (a .table .now) (a .told .year) (a .told .rate) (a .told .population) (a .counts .now) (a .results .now) (buffer d) (numbers d) (places d) (d .collect .result) (begun d .pre .few .students) (begun d .pre .populated) (d .collect .ensures)
+    collected-placeable (a .catalogue .now) (a .table .now) (a .read .year) (a .read .rate) (a .read .population) (a .counts .now) (a .results .now) (buffer d) (numbers d) (places d) (d .collect .result) (begun d .pre .few .students) (begun d .pre .populated) (d .collect .ensures)
 
 array-share-prefix-numbers : tie.Need-array-share-prefix-numbers
 array-share-prefix-numbers c =
@@ -100,7 +100,7 @@ list-placed-requires c κs =
       numbers-long = ap length (front d (numbers d) _ (w .numbers-long)) ∙ w .numbers-long ∙ sym (p .ids-long);
       places-long = ap length (front d (places d) _ (w .places-long)) ∙ w .places-long ∙ sym (p .ids-long);
       within = omega (arith, w .within, p .ids-long);
-      left = omega (arith, c .before .before .before .before .place .ensures .left, remainder-within (take (d .collect .result) (buffer d)) (tableOf (begun d .args .told .rate)) (begun d .args .told .population), eligible d);
+      left = omega (arith, c .before .before .before .before .place .ensures .left, remainder-within (take (d .collect .result) (buffer d)) (tableOf (begun d .args .read .rate)) (begun d .args .read .population), eligible d);
       room = p .room;
     }
 
@@ -116,7 +116,7 @@ returns c =
     let y = front d (places d) (drop (length (a .counts .now)) (replicate mostStudents 0)) (w .places-long) in
     subst (Put (a .text .now) (c .before .before .list-placed .last .1 .1 .1 .1 .1 .1 .0) 0 (c .before .before .list-placed .result))
     ((λ i. listedKept (a .ids .now) (x i) (y i) (buffer d) (d .collect .result) (c .before .before .before .before .before .before .before .place .result))
-    ∙ listed-told (a .catalogue .now) (a .table .now) (a .told .year) (tableOf (a .told .rate)) (a .told .population) (a .ids .now) (a .counts .now) (a .results .now) (buffer d) (numbers d) (places d) (d .collect .result) (c .before .before .before .before .before .before .before .place .result) (begun d .pre .ids-long) (eligible d) (w .are (a .ids .now)) (c .before .before .before .before .before .before .before .place .ensures))
+    ∙ listed-told (a .catalogue .now) (a .table .now) (a .read .year) (tableOf (a .read .rate)) (a .read .population) (a .ids .now) (a .counts .now) (a .results .now) (buffer d) (numbers d) (places d) (d .collect .result) (c .before .before .before .before .before .before .before .place .result) (begun d .pre .ids-long) (eligible d) (w .are (a .ids .now)) (c .before .before .before .before .before .before .before .place .ensures))
     (c .before .before .list-placed .ensures)
 
 pub list-read-spec : {M : Type 1} → statement M
