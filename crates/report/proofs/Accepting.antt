@@ -3,9 +3,8 @@ use Prim.Native.Nat.{ℕ, _≤_, _<_}
 use native.Mathlib.Omega.{arith}
 use mathlib.Core.Path.{_≡_, refl, ap, subst, _∙_}
 use mathlib.Core.Bool.{Bool, false}
-use mathlib.Core.List.{List, _++_}
+use mathlib.Core.List.{List}
 use lib.ListN.{length, getD}
-use lib.Seq.{take-at}
 use borrow.Author.Tests.{le-ltb, eq-eqb}
 use Rattle.paper.specs.Limits.{mostAggregate, bandCount, mostStudents, mostValues, mostPopulation, mostEntry, leastRate, mostRate}
 use Rattle.paper.specs.Lists.{over, someOver, pick}
@@ -19,15 +18,15 @@ use Rattle.curve.specs.Meaning.{Curved}
 use Rattle.curve.proofs.Means.{curved}
 use Rattle.ranks.specs.Promise.{Lent, lent, ranked, ruling as ranksRuling, Promise as RanksPromise}
 use Rattle.ranks.specs.declared.Answer.{Answer as RanksAnswer}
-use Rattle.ranks.proofs.Promised.{ranked-is, computed as ranks-computed}
+use Rattle.ranks.proofs.Promised.{ranked-is}
 use Rattle.bands.specs.Placing.{remainder}
 use Rattle.bands.specs.Bands.{bandsOf}
 use Rattle.bands.specs.Promise.{ruling as bandsRuling, Promise as BandsPromise}
 use Rattle.bands.specs.declared.Answer.{Answer as BandsAnswer}
 use Rattle.bands.specs.declared.Answer.the-variants.{Accepted as Placed, Refused as Turned}
-use Rattle.bands.proofs.Placed.{best-exists}
 use Rattle.bands.proofs.Promised.{tells as bands-tells, owes as bands-owes}
-use Rattle.report.specs.Inner.{Populated, Placeable, Places}
+use Rattle.report.specs.Report.{Columns, columnsOf}
+use Rattle.report.specs.Inner.{Populated, columns, Cohort, Placeable}
 
 -- a list with no number over a limit
 within-over : (limit : ℕ) (xs : List ℕ) → ((i : ℕ) → i < length xs → getD xs i 0 ≤ limit) → someOver limit xs ≡ false
@@ -52,7 +51,7 @@ remainderIn (Turned x) = 0
 pub placed-once : (n : ℕ) (x : Refusal) → Placed n ≡ Turned x → ⊥
 placed-once n x e = absurd (let z : _≡_ {A = ℕ} 0 1 = cc in omega arith)
 
-module _ (rate population : ℕ) (aggregates : List ℕ) (p : Placeable rate population aggregates) where
+module _ (rate population : ℕ) (aggregates : List ℕ) (p : Cohort aggregates rate population) where
   pub ranks-accept : (ranks percentiles : List ℕ) → length ranks ≡ length aggregates → length percentiles ≡ length aggregates → ranksRuling aggregates (lent ranks percentiles) ≡ accepted tt
   ranks-accept ranks percentiles a b =
       let few : length aggregates ≤ mostValues = omega (arith, p .few) in
@@ -83,20 +82,11 @@ module _ (rate population : ℕ) (aggregates : List ℕ) (p : Placeable rate pop
       subst (λ (x : List ℕ). BandsPromise aggregates x population before r after) (h ∙ table-drawn rate population (p .populated) drawing) k in
       only-as bands-tells rules-is (bands-owes aggregates (tableOf rate) population before) (bands-accept before b) m
 
-  -- and at the front of a buffer each
-  pub front : (before after : Lent) (bands drawing table placed : List ℕ) {r : RanksAnswer} (s : BandsAnswer) (x y z : List ℕ) → length (before .ranks) ≡ length aggregates → length (before .percentiles) ≡ length aggregates
-      → length bands ≡ length aggregates → table ≡ drawn rate drawing → RanksPromise aggregates before r after → BandsPromise aggregates table population bands s placed
-      → Places (tableOf rate) population aggregates (record { ranks = after .ranks ++ x; percentiles = after .percentiles ++ y; bands = placed ++ z; remainder = remainderIn s })
-  front before after bands drawing table placed s x y z a b d h g k =
-      let e = all-ranked before after a b g in
-      let f = all-placed bands drawing table placed d h k in
-      let long = ranks-computed aggregates in
-      let best = best-exists aggregates (tableOf rate) population in
-      let ranks-is = ap (λ (l : Lent). l .ranks) e in
-      let percentiles-is = ap (λ (l : Lent). l .percentiles) e in
-      record {
-        ranks-are = take-at (after .ranks) x (length aggregates) (ap length ranks-is ∙ long .ranks-long) ∙ ranks-is;
-        percentiles-are = take-at (after .percentiles) y (length aggregates) (ap length percentiles-is ∙ long .percentiles-long) ∙ percentiles-is;
-        bands-are = take-at placed z (length aggregates) (ap length (f .1) ∙ best .keeps .long) ∙ f .1;
-        left = ap remainderIn (f .0);
-      }
+-- together, into buffers of their lengths
+pub all-listed : (rate population : ℕ) (c : Columns) → Placeable rate population c → (drawing table : List ℕ) {ranks percentiles bands : List ℕ} {r : RanksAnswer} {s : BandsAnswer}
+    → table ≡ drawn rate drawing → RanksPromise (c .aggregates) (lent (c .ranks) (c .percentiles)) r (lent ranks percentiles) → BandsPromise (c .aggregates) table population (c .bands) s bands
+    → (columns (c .aggregates) ranks percentiles bands ≡ columnsOf (c .aggregates) (tableOf rate) population) × (s ≡ Placed (remainder (c .aggregates) (tableOf rate) population))
+all-listed rate population c p drawing table {ranks} {percentiles} {bands} h g k =
+    let e = all-ranked rate population (c .aggregates) (p .cohort) (lent (c .ranks) (c .percentiles)) (lent ranks percentiles) (p .even .ranks) (p .even .percentiles) g in
+    let f = all-placed rate population (c .aggregates) (p .cohort) (c .bands) drawing table bands (p .even .bands) h k in
+    (λ i. columns (c .aggregates) (e i .ranks) (e i .percentiles) (f .1 i), f .0)

@@ -1,21 +1,24 @@
 -- An aggregate is at most five times the greatest score.
-use Prim.Native.Nat.{ℕ, zero, suc, _*_, _≤_}
+use Prim.Native.Nat.{ℕ, zero, suc, _*_, _≤_, _<_}
 use native.Mathlib.Omega.{arith}
 use mathlib.Core.Path.{_≡_, refl, sym, subst}
 use mathlib.Core.List.{List, [], _∷_}
-use lib.ListN.{length, getD, take}
+use lib.ListN.{length, getD, take, drop, length-take}
 use lib.Seq.{length-take-le}
-use Rattle.paper.specs.Limits.{topScore, mostAggregate, mostStudents}
-use Rattle.paper.specs.Rulings.{Outcome, accepted, refused}
+use Rattle.paper.specs.Limits.{topScore, mostAggregate, mostStudents, mostSubjects, mostResults, resultBytes}
+use Rattle.paper.specs.Rulings.{Outcome, accepted, refused, placeIn}
+use Rattle.paper.proofs.Ruled.{IfRefused}
+use Rattle.catalogue.specs.Catalogue.{subjects}
 use Rattle.seek.specs.Sets.{positions, sumOver}
-use Rattle.results.specs.Results.{Student as One, student, result}
+use Rattle.results.specs.Results.{Student as One, student, result, held}
 use Rattle.results.specs.Scoring.{scoreAt}
 use Rattle.bestset.specs.Promise.{Values, Chosen}
 use Rattle.bestset.specs.Computed.{computed}
+use Rattle.bestset.proofs.Places.{Near, place-near}
 use Rattle.results.proofs.Scores.{score-most}
 use Rattle.cohort.specs.Held.{Enrolled}
 use Rattle.report.specs.Report.{outcome, withAggregate, aggregatesOf}
-use Rattle.report.specs.Inner.{studentsIn, Collected, Populated, Placeable}
+use Rattle.report.specs.Inner.{studentsIn, outcomeAt, Collected, Populated, Cohort}
 use Rattle.report.proofs.Best.{chosen}
 
 sum-most : (f : ℕ → ℕ) (l : List ℕ) → ((i : ℕ) → f i ≤ topScore) → sumOver f l ≤ topScore * length l
@@ -38,13 +41,31 @@ aggregates-most catalogue table year (s ∷ ss) i = go (computed (student catalo
     go (accepted v) e h zero = most (student catalogue year (s .results)) table v (chosen (student catalogue year (s .results)) table v e)
     go (accepted v) e h (suc i) = h i
 
--- so aggregates that are collected can be ranked and placed
-pub collected-placeable : (catalogue table : List ℕ) (year rate population : ℕ) (counts results buffer numbers places : List ℕ) (m : ℕ) → length counts ≤ mostStudents
-    → Populated rate population → Collected (outcome catalogue table year) counts results buffer numbers places m → Placeable rate population (take m buffer)
-collected-placeable catalogue table year rate population counts results buffer numbers places m h p w =
+-- so aggregates that are collected are those of a cohort
+pub collected-cohort : (catalogue table : List ℕ) (year rate population : ℕ) (counts results buffer numbers places : List ℕ) (m : ℕ) → length counts ≤ mostStudents
+    → Populated rate population → Collected (outcome catalogue table year) counts results buffer numbers places m → Cohort (take m buffer) rate population
+collected-cohort catalogue table year rate population counts results buffer numbers places m h p w =
     let long : length (take m buffer) ≡ m = length-take-le m buffer (omega (arith, w .long, w .within)) in
     record {
       populated = p;
       few = omega (arith, w .within);
       each = λ i. subst (λ (l : List ℕ). getD l i 0 ≤ mostAggregate) (sym (w .are [] .aggregates-are)) (aggregates-most catalogue table year (studentsIn (length counts) [] counts results) i);
     }
+
+-- the place of a refusal stands in a byte
+pub place-short : (catalogue table : List ℕ) (year : ℕ) (results : List ℕ) (place count : ℕ) → subjects catalogue ≤ mostSubjects → count ≤ mostResults
+    → placeIn (outcomeAt catalogue table year results place count) < 256
+place-short catalogue table year results place count s r = go (computed one table) (place-near one table)
+  where
+    own : List ℕ
+    own = take (resultBytes * count) (drop place results)
+
+    one : One
+    one = student catalogue year own
+
+    few : held one ≤ mostResults
+    few = omega (arith, length-take (resultBytes * count) (drop place results))
+
+    go : (o : Outcome Values) → IfRefused (Near one table) o → placeIn o < 256
+    go (accepted v) n = omega arith
+    go (refused f) n = omega (arith, n, few)

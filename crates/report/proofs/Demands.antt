@@ -24,7 +24,7 @@ use Rattle.cohort.specs.Held.{Enrolled, Held}
 use Rattle.cohort.specs.Reading.{reading}
 use Rattle.cohort.proofs.Holding.{sound}
 use Rattle.report.specs.Report.{outcome, outcomeOf, withAggregate, aggregatesOf, eligibleOf, participation, Columns, columnsOf, eligibleLine, lineOf, afterOne, linesOf, textOfOutcome, textOf}
-use Rattle.report.specs.Inner.{Placeable}
+use Rattle.report.specs.Inner.{Cohort}
 use Rattle.report.specs.Meaning.{In, Estimated}
 use Rattle.report.proofs.Whole.{whole-line, whole-join, all-whole}
 use Rattle.report.proofs.Accepting.{table-drawn, ranks-accept, bands-accept}
@@ -91,7 +91,7 @@ module _ (file : List ℕ) (held : Held) (reads : reading file ≡ accepted held
   out = outcomeOf held
 
   abbrev cols : Columns
-  cols = columnsOf (participation (held .figures)) (Y (held .figures)) (eligibleOf held)
+  cols = columnsOf (eligibleOf held) (participation (held .figures)) (Y (held .figures))
 
   -- the line of each student stands in the text
   printed : (before : List Enrolled) (s : Enrolled) (rest : List Enrolled) → held .students ≡ before ++ (s ∷ rest)
@@ -148,8 +148,8 @@ module _ (file : List ℕ) (held : Held) (reads : reading file ≡ accepted held
       → In (refusedLine (s .id) (numberOf f) (placeOf f)) (textOf file)
   turned before s rest f e a = subst (λ (o : Outcome Values). In (lineOf cols (length (aggregatesOf out before)) (s .id) o) (textOf file)) a (printed before s rest e)
 
-  placeable : Placeable (rate (held .figures)) (Y (held .figures)) (eligibleOf held)
-  placeable =
+  cohort-is : Cohort (eligibleOf held) (rate (held .figures)) (Y (held .figures))
+  cohort-is =
       let good = sound file held reads in
       let people = counted (held .figures) (Y (held .figures)) (rate (held .figures)) (record { says = sym (good .population); leaves = tt }) in
       record {
@@ -164,5 +164,5 @@ module _ (file : List ℕ) (held : Held) (reads : reading file ≡ accepted held
       × (ranksRuling (eligibleOf held) (lent ranks percentiles) ≡ accepted tt)
       × (bandsRuling (eligibleOf held) (participation (held .figures)) (Y (held .figures)) bands ≡ accepted (remainder (eligibleOf held) (participation (held .figures)) (Y (held .figures))))
   never-refused before ranks percentiles bands a b c =
-      let p = placeable in
+      let p = cohort-is in
       (table-drawn _ _ (p .populated) before, ranks-accept _ _ _ p ranks percentiles a b, bands-accept _ _ _ p bands c)

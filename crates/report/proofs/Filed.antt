@@ -118,12 +118,13 @@ module _ (file : List ℕ) (old new : Lent) (v : Summary) (b : Sized old) (w : T
       }
 
   -- so it can be listed
-  pub ready : (text : List ℕ) → length text ≡ textBytes → Read (v .rate) (v .population) (take (v .students) (new .ids)) (take (v .students) (new .counts)) (new .results) text
+  pub ready : (text : List ℕ) → length text ≡ textBytes → Read (v .rate) (v .population) (take (entryBytes * v .subjects) (new .catalogue)) (take (v .students) (new .ids)) (take (v .students) (new .counts)) (new .results) text
   ready text room =
       let people = counted (so .figures) (Y (so .figures)) (rate (so .figures)) (record { says = sym (good .population); leaves = tt }) in
       let r : v .rate ≡ rate (so .figures) = ap (λ (v : Summary). v .rate) (w .values) in
       let y : v .population ≡ Y (so .figures) = ap (λ (v : Summary). v .population) (w .values) in
       record {
+        few-subjects = subst (λ (c : List ℕ). subjects c ≤ mostSubjects) (sym catalogue-is) (good .few-subjects);
         populated = record { least-rate = omega (arith, people .least-rate); most-rate = omega (arith, people .most-rate); some = omega (arith, people .some); most = omega (arith, people .most) };
         ids-long = ap length ids-are ∙ length-ids (so .students) ∙ sym (ap length counts-are ∙ length-counts (so .students));
         few = record {

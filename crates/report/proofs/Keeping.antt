@@ -1,11 +1,11 @@
 -- The lines of what is kept are those of the students.
 use Prim.Native.Nat.{ℕ, zero, suc, _+_, _*_, _≤_, _<_}
 use native.Mathlib.Omega.{arith}
-use mathlib.Core.Path.{_≡_, refl, sym, ap, subst, _∙_}
+use mathlib.Core.Path.{_≡_, refl, sym, ap, _∙_}
 use mathlib.Core.Bool.{Bool, true, false}
 use mathlib.Core.List.{List, [], _∷_, _++_}
 use lib.ListN.{length, getD, take, drop}
-use lib.Seq.{getD-take}
+use lib.Seq.{getD-take, take-at}
 use lib.Dec.{eqb}
 use borrow.Author.Tests.{ne-eqb, eqb-true}
 use Rattle.paper.specs.Limits.{resultBytes}
@@ -15,12 +15,13 @@ use Rattle.paper.proofs.Ruled.{Refusing, some-number}
 use Rattle.results.specs.Results.{student}
 use Rattle.bestset.specs.Promise.{Values}
 use Rattle.bestset.proofs.Meeting.{computed-tabled}
+use Rattle.ranks.proofs.Promised.{computed as ranks-computed}
 use Rattle.bands.specs.Placing.{remainder}
+use Rattle.bands.proofs.Placed.{best-exists}
 use Rattle.listing.specs.Lines.{cohortLine, studentLine, refusedLine}
 use Rattle.cohort.specs.Held.{Enrolled, idsOf}
 use Rattle.report.specs.Report.{Columns, columnsOf, outcome, withAggregate, aggregatesOf, lineOf, afterOne, linesOf, listed}
-use Rattle.report.specs.Inner.{studentsIn, numbersOf, placesOf, Kept, lineKept, afterKept, linesKept, eligibleKept, columns, Places, listedKept}
-use Rattle.report.specs.declared.placing.Placed.{Placed}
+use Rattle.report.specs.Inner.{studentsIn, numbersOf, placesOf, Kept, lineKept, afterKept, linesKept, eligibleKept, columns, listedKept}
 use Rattle.report.proofs.Lining.{eligible-least}
 
 -- what is kept of a student tells its line and whether it is eligible
@@ -73,6 +74,27 @@ same-lines c d n h j ids (number ∷ numbers) places e =
         let one : afterKept j number ≡ suc j = ap (afterKept j) z in
         omega (arith, e, eligible-least (afterKept j number) numbers)
 
+-- a number of a list's front
+in-front : (n : ℕ) (xs ys : List ℕ) (j : ℕ) → take n xs ≡ ys → j < n → getD xs j 0 ≡ getD ys j 0
+in-front n xs ys j e l = sym (getD-take n xs j 0 l) ∙ ap (λ (l : List ℕ). getD l j 0) e
+
+-- so columns that begin with those of the eligible will do
+pub front-lines : (aggregates table : List ℕ) (Y : ℕ) (ranks percentiles bands x y z : List ℕ) → columns aggregates ranks percentiles bands ≡ columnsOf aggregates table Y
+    → (ids numbers places : List ℕ) → eligibleKept 0 numbers ≡ length aggregates
+    → linesKept (columns aggregates (ranks ++ x) (percentiles ++ y) (bands ++ z)) 0 ids numbers places ≡ linesKept (columnsOf aggregates table Y) 0 ids numbers places
+front-lines aggregates table Y ranks percentiles bands x y z e ids numbers places h =
+    let n = length aggregates in
+    let r = ap (λ (c : Columns). c .ranks) e in
+    let p = ap (λ (c : Columns). c .percentiles) e in
+    let b = ap (λ (c : Columns). c .bands) e in
+    let long = ranks-computed aggregates in
+    let ranks-are = take-at ranks x n (ap length r ∙ long .ranks-long) ∙ r in
+    let percentiles-are = take-at percentiles y n (ap length p ∙ long .percentiles-long) ∙ p in
+    let bands-are = take-at bands z n (ap length b ∙ best-exists aggregates table Y .keeps .long) ∙ b in
+    same-lines (columns aggregates (ranks ++ x) (percentiles ++ y) (bands ++ z)) (columnsOf aggregates table Y) n
+    (λ j id place l. λ i. studentLine id (getD aggregates j 0) (in-front n (ranks ++ x) _ j ranks-are l i) (in-front n (percentiles ++ y) _ j percentiles-are l i) (in-front n (bands ++ z) _ j bands-are l i))
+    0 ids numbers places (omega (arith, h))
+
 -- the ids of the students in buffers, and how many they are
 ids-in : (ids counts results : List ℕ) → idsOf (studentsIn (length ids) ids counts results) ≡ ids
 unfolding studentsIn
@@ -83,10 +105,6 @@ number-in : (n : ℕ) (ids counts results : List ℕ) → length (studentsIn n i
 unfolding studentsIn
 number-in zero ids counts results = refl
 number-in (suc n) ids counts results = ap suc (number-in n (drop 1 ids) (drop 1 counts) (drop (resultBytes * getD counts 0 0) results))
-
--- a number of a list's front
-in-front : (n : ℕ) (xs ys : List ℕ) (j : ℕ) → take n xs ≡ ys → j < n → getD xs j 0 ≡ getD ys j 0
-in-front n xs ys j e l = sym (getD-take n xs j 0 l) ∙ ap (λ (l : List ℕ). getD l j 0) e
 
 -- so the listing of what is kept is that of the students
 module _ (catalogue table : List ℕ) (year : ℕ) (shares : List ℕ) (Y : ℕ) (ids counts results : List ℕ) where
@@ -100,20 +118,17 @@ module _ (catalogue table : List ℕ) (year : ℕ) (shares : List ℕ) (Y : ℕ)
   unfolding outcome
   out-tabled s = computed-tabled (student catalogue year (s .results)) table
 
-  pub listed-told : (buffer numbers places : List ℕ) (m : ℕ) (p : Placed) → length ids ≡ length counts → length (take m buffer) ≡ m
-      → Kept out those (take m buffer) numbers places → Places shares Y (take m buffer) p → listedKept ids numbers places buffer m p ≡ listed out shares Y those
-  listed-told buffer numbers places m p l long k q =
+  pub eligible-are : (aggregates numbers places : List ℕ) → Kept out those aggregates numbers places → eligibleKept 0 numbers ≡ length aggregates
+  eligible-are aggregates numbers places k = ap (eligibleKept 0) (k .numbers-are) ∙ eligible-told out out-tabled 0 those ∙ zero-more ∙ sym (ap length (k .aggregates-are))
+    where
+      zero-more : 0 + length (aggregatesOf out those) ≡ length (aggregatesOf out those)
+      zero-more = omega arith
+
+  pub listed-told : (aggregates numbers places : List ℕ) → length ids ≡ length counts → Kept out those aggregates numbers places
+      → listedKept ids numbers places aggregates shares Y ≡ listed out shares Y those
+  listed-told aggregates numbers places l k =
       let agg = aggregatesOf out those in
-      let cols = columnsOf shares Y agg in
-      let e : take m buffer ≡ agg = k .aggregates-are in
-      let n : m ≡ length agg = sym long ∙ ap length e in
-      let w : Places shares Y agg p = subst (λ (a : List ℕ). Places shares Y a p) e q in
       let ids-are : ids ≡ idsOf those = sym (ap idsOf (ap (λ (j : ℕ). studentsIn j ids counts results) (sym l)) ∙ ids-in ids counts results) in
       let many : length ids ≡ length those = l ∙ sym (number-in (length counts) ids counts results) in
-      let eligible : eligibleKept 0 numbers ≤ length agg = omega (arith, ap (eligibleKept 0) (k .numbers-are) ∙ eligible-told out out-tabled 0 those) in
-      (λ i. cohortLine (many i) (n i) (w .left i) ++ linesKept (columns buffer p) 0 ids numbers places)
-      ∙ ap (λ (t : List ℕ). cohortLine (length those) (length agg) (remainder agg shares Y) ++ t)
-      (same-lines (columns buffer p) cols (length agg) (λ j id place h. λ i.
-      studentLine id (in-front m buffer agg j e (omega arith) i) (in-front (length agg) (p .ranks) (cols .ranks) j (w .ranks-are) h i) (in-front (length agg) (p .percentiles) (cols .percentiles) j (w .percentiles-are) h i) (in-front (length agg) (p .bands) (cols .bands) j (w .bands-are) h i))
-      0 ids numbers places eligible
-      ∙ (λ i. linesKept cols 0 (ids-are i) (k .numbers-are i) (k .places-are i)) ∙ lines-told out out-tabled cols 0 those)
+      (λ i. cohortLine (many i) (length (k .aggregates-are i)) (remainder (k .aggregates-are i) shares Y) ++ linesKept (columnsOf (k .aggregates-are i) shares Y) 0 (ids-are i) (k .numbers-are i) (k .places-are i))
+      ∙ ap (λ (t : List ℕ). cohortLine (length those) (length agg) (remainder agg shares Y) ++ t) (lines-told out out-tabled (columnsOf agg shares Y) 0 those)

@@ -43,7 +43,7 @@ up-to limit xs j h = go (decLt j (length xs))
 -- the lines of eligible students
 module _ (table : List ℕ) (Y : ℕ) (aggregates : List ℕ) (each : (j : ℕ) → getD aggregates j 0 ≤ 50000) (few : length aggregates ≤ mostStudents) where
   abbrev cols : Columns
-  cols = columnsOf table Y aggregates
+  cols = columnsOf aggregates table Y
 
   eligible-short : (j id : ℕ) → id < 4294967296 → length (eligibleLine cols j id) ≤ lineBytes
   eligible-short j id h =
@@ -73,24 +73,24 @@ module _ (file : List ℕ) (bytes : (i : ℕ) → byte file i < 256) (so : Held)
   few : length (eligibleOf so) ≤ mostStudents
   few = omega (arith, eligible-within out (so .students), good .few-students)
 
-  one-short : (s : Enrolled) (j : ℕ) → ShortId s → FewResults s → length (lineOf (columnsOf shares (Y (so .figures)) (eligibleOf so)) j (s .id) (out s)) ≤ lineBytes
+  one-short : (s : Enrolled) (j : ℕ) → ShortId s → FewResults s → length (lineOf (columnsOf (eligibleOf so) shares (Y (so .figures))) j (s .id) (out s)) ≤ lineBytes
   unfolding outcome
   one-short s j h r = go (out s) (computed-tabled one (so .table)) (place-near one (so .table))
     where
       one : Student
       one = student (so .catalogue) (so .year) (s .results)
 
-      go : (o : Outcome Values) → Refusing o → IfRefused (Near one (so .table)) o → length (lineOf (columnsOf shares (Y (so .figures)) (eligibleOf so)) j (s .id) o) ≤ lineBytes
+      go : (o : Outcome Values) → Refusing o → IfRefused (Near one (so .table)) o → length (lineOf (columnsOf (eligibleOf so) shares (Y (so .figures))) j (s .id) o) ≤ lineBytes
       go (accepted v) t n = eligible-short shares (Y (so .figures)) (eligibleOf so) (aggregates-most (so .catalogue) (so .table) (so .year) (so .students)) few j (s .id) h
       go (refused f) t n = refused-short one (so .table) (s .id) f h (good .few-subjects) (r .1) t n
 
-  lines-short : (ss : List Enrolled) (j : ℕ) → Each ShortId ss → Each FewResults ss → length (linesOf out (columnsOf shares (Y (so .figures)) (eligibleOf so)) j ss) ≤ lineBytes * length ss
+  lines-short : (ss : List Enrolled) (j : ℕ) → Each ShortId ss → Each FewResults ss → length (linesOf out (columnsOf (eligibleOf so) shares (Y (so .figures))) j ss) ≤ lineBytes * length ss
   unfolding linesOf
   lines-short [] j h r = omega arith
   lines-short (s ∷ ss) j h r =
       omega (
         arith,
-        length-append (lineOf (columnsOf shares (Y (so .figures)) (eligibleOf so)) j (s .id) (out s)) (linesOf out (columnsOf shares (Y (so .figures)) (eligibleOf so)) (afterOne j (out s)) ss),
+        length-append (lineOf (columnsOf (eligibleOf so) shares (Y (so .figures))) j (s .id) (out s)) (linesOf out (columnsOf (eligibleOf so) shares (Y (so .figures))) (afterOne j (out s)) ss),
         one-short s j (h .0) (r .0),
         lines-short ss (afterOne j (out s)) (h .1) (r .1),
       )
@@ -102,7 +102,7 @@ module _ (file : List ℕ) (bytes : (i : ℕ) → byte file i < 256) (so : Held)
       cohort-fits _ _ _ (omega (arith, good .few-students)) (omega (arith, few)) (omega (arith, few, remainder-within (eligibleOf so) shares (Y (so .figures)))) in
       omega (
         arith,
-        length-append (cohortLine (length (so .students)) (length (eligibleOf so)) left) (linesOf out (columnsOf shares (Y (so .figures)) (eligibleOf so)) 0 (so .students)),
+        length-append (cohortLine (length (so .students)) (length (eligibleOf so)) left) (linesOf out (columnsOf (eligibleOf so) shares (Y (so .figures))) 0 (so .students)),
         first,
         lines-short (so .students) 0 (short-ids file bytes so reads) (good .few-results),
         good .few-students,

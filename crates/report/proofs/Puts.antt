@@ -3,10 +3,11 @@ use Prim.Native.Nat.{ℕ, suc, _+_, _-_, _≤_, _<_}
 use native.Mathlib.Omega.{arith}
 use mathlib.Core.Path.{_≡_, sym, ap, subst, _∙_}
 use mathlib.Core.List.{List, [], _++_, append-assoc}
-use lib.ListN.{length, getD, take, drop, set, length-append, length-replicate, take-append-drop}
+use lib.ListN.{length, getD, take, drop, set, length-append, length-drop, length-replicate, take-append-drop}
 use lib.Seq.{length-take-le, paste, paste-suc}
 use Rattle.paper.specs.Parts.{laid}
-use Rattle.paper.proofs.Parted.{laid-next}
+use borrow.Rule.Slice.PartMut.{putMid}
+use Rattle.paper.proofs.Parted.{laid-next, put-laid, laid-inside, length-laid}
 use Rattle.listing.specs.Lines.{shown, Shows, lineBytes}
 use Rattle.listing.specs.declared.writing.Line.{Line}
 use Rattle.report.specs.Inner.{Put}
@@ -63,3 +64,20 @@ put-none b p h =
 
 pub shown-short : {line : Line} {text : List ℕ} → Shows line text → length (shown line) ≤ lineBytes
 shown-short w = omega (arith, w .fits, ap length (w .same))
+
+-- a text put into the rest of a buffer that was lent on
+pub put-part : (b rest t : List ℕ) (p k n : ℕ) (x : List ℕ) → p + k ≡ length b → rest ≡ take k (drop p b) → length x ≤ k → Put rest t 0 n x → Put b (putMid p k b t) p (p + n) x
+put-part b rest t p k n x l e h a =
+    let long : length rest ≡ k = ap length e ∙ length-take-le k (drop p b) (simp length-drop (omega arith)) in
+    let same : length t ≡ k = ap length (a .content) ∙ length-laid rest 0 x (omega (arith, long)) ∙ long in
+    let m : p + k - p ≡ k = omega arith in
+    let z : p + 0 ≡ p = omega arith in
+    record {
+      content =
+          ap (λ (j : ℕ). putMid p j b t) (sym m)
+          ∙ put-laid p k b t same
+          ∙ ap (laid b p) (a .content ∙ ap (λ (r : List ℕ). laid r 0 x) e)
+          ∙ laid-inside b p k 0 x (omega arith) (omega arith)
+          ∙ ap (λ (j : ℕ). laid b j x) z;
+      ends = omega (arith, a .ends);
+    }

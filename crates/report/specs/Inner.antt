@@ -3,10 +3,11 @@ use Prim.Native.Nat.{ℕ, zero, suc, _+_, _*_, _≤_, _<_}
 use mathlib.Core.Path.{_≡_}
 use mathlib.Core.List.{List, [], _∷_, _++_, map}
 use lib.ListN.{length, getD, take, drop, set}
-use Rattle.paper.specs.Limits.{resultBytes, mostResults, mostAggregate, mostStudents, resultsBytes, mostPopulation, leastRate, mostRate}
+use Rattle.paper.specs.Limits.{resultBytes, mostResults, mostSubjects, mostAggregate, mostStudents, resultsBytes, mostPopulation, leastRate, mostRate}
 use Rattle.paper.specs.Parts.{laid}
 use Rattle.paper.specs.Rulings.{Outcome, accepted, refused, numberIn, placeIn}
 use Rattle.paper.specs.Words.{_=?_, if_then_else_}
+use Rattle.catalogue.specs.Catalogue.{subjects}
 use Rattle.results.specs.Results.{student}
 use Rattle.bestset.specs.Promise.{Values}
 use Rattle.bestset.specs.Computed.{computed}
@@ -14,8 +15,7 @@ use Rattle.bands.specs.Placing.{remainder}
 use Rattle.cohort.specs.Held.{Enrolled}
 use Rattle.listing.specs.Lines.{cohortLine, studentLine, refusedLine, lineBytes}
 use Rattle.report.specs.Sizes.{textBytes}
-use Rattle.report.specs.Report.{Columns, columnsOf, aggregatesOf}
-use Rattle.report.specs.declared.placing.Placed.{Placed}
+use Rattle.report.specs.Report.{Columns, columnsOf, aggregatesOf, eligibleLine}
 
 -- the first n students whose ids, numbers of results and results stand in buffers
 unfoldable pub studentsIn : ℕ → List ℕ → List ℕ → List ℕ → List Enrolled
@@ -47,8 +47,9 @@ pub record Few (counts results : List ℕ) : Type 0 where
   pub each : (i : ℕ) → i < length counts → getD counts i 0 ≤ mostResults
   pub bytes : length results ≡ resultsBytes
 
--- such students, with a buffer for each column
-pub record Keepable (counts results aggregates numbers places : List ℕ) : Type 0 where
+-- a catalogue of at most 64 subjects, such students, and a buffer for each column
+pub record Keepable (catalogue counts results aggregates numbers places : List ℕ) : Type 0 where
+  pub few-subjects : subjects catalogue ≤ mostSubjects
   pub few : Few counts results
   pub aggregates-long : length aggregates ≡ mostStudents
   pub numbers-long : length numbers ≡ length counts
@@ -74,22 +75,25 @@ pub record Populated (rate population : ℕ) : Type 0 where
   pub some : 1 ≤ population
   pub most : population ≤ mostPopulation
 
--- aggregates of a cohort of at most 512
-pub record Placeable (rate population : ℕ) (aggregates : List ℕ) : Type 0 where
+-- each column is as long as the aggregates
+pub record Even (c : Columns) : Type 0 where
+  pub ranks : length (c .ranks) ≡ length (c .aggregates)
+  pub percentiles : length (c .percentiles) ≡ length (c .aggregates)
+  pub bands : length (c .bands) ≡ length (c .aggregates)
+
+abbrev pub columns : List ℕ → List ℕ → List ℕ → List ℕ → Columns
+columns aggregates ranks percentiles bands = record { aggregates = aggregates; ranks = ranks; percentiles = percentiles; bands = bands }
+
+-- aggregates of a cohort of at most 512, an accepted rate and Y
+pub record Cohort (aggregates : List ℕ) (rate population : ℕ) : Type 0 where
   pub populated : Populated rate population
   pub few : length aggregates ≤ mostStudents
   pub each : (i : ℕ) → getD aggregates i 0 ≤ mostAggregate
 
--- the columns of the eligible: their aggregates, and what was placed
-abbrev pub columns : List ℕ → Placed → Columns
-columns aggregates p = record { aggregates = aggregates; ranks = p .ranks; percentiles = p .percentiles; bands = p .bands }
-
--- what was placed begins with what is listed of the eligible, and has their remainder
-pub record Places (table : List ℕ) (Y : ℕ) (aggregates : List ℕ) (p : Placed) : Type 0 where
-  pub ranks-are : take (length aggregates) (p .ranks) ≡ columnsOf table Y aggregates .ranks
-  pub percentiles-are : take (length aggregates) (p .percentiles) ≡ columnsOf table Y aggregates .percentiles
-  pub bands-are : take (length aggregates) (p .bands) ≡ columnsOf table Y aggregates .bands
-  pub left : p .remainder ≡ remainder aggregates table Y
+-- such a cohort, with a buffer of its number for each column
+pub record Placeable (rate population : ℕ) (c : Columns) : Type 0 where
+  pub cohort : Cohort (c .aggregates) rate population
+  pub even : Even c
 
 -- a student's line: with the number 0 that of an eligible one
 abbrev pub lineOr : ℕ → ℕ → ℕ → ℕ → ℕ → ℕ → ℕ → List ℕ
@@ -97,7 +101,7 @@ lineOr id number place aggregate rank percentile band = if number =? 0 then stud
 
 -- the line of the student of whom this is kept, and who is, if eligible, the j-th of the eligible
 abbrev pub lineKept : Columns → ℕ → ℕ → ℕ → ℕ → List ℕ
-lineKept c j id number place = lineOr id number place (getD (c .aggregates) j 0) (getD (c .ranks) j 0) (getD (c .percentiles) j 0) (getD (c .bands) j 0)
+lineKept c j id number place = if number =? 0 then eligibleLine c j id else refusedLine id number place
 
 -- how many are eligible with one student more
 abbrev pub afterKept : ℕ → ℕ → ℕ
@@ -115,27 +119,30 @@ eligibleKept j [] = j
 eligibleKept j (number ∷ numbers) = eligibleKept (afterKept j number) numbers
 
 -- at most 512 students, of each of whom number and place are kept, and room for their lines
-pub record Listable (ids numbers places text : List ℕ) (start : ℕ) : Type 0 where
+pub record Listable (ids numbers places text : List ℕ) : Type 0 where
   pub few : length ids ≤ mostStudents
   pub numbers-long : length numbers ≡ length ids
   pub places-long : length places ≡ length ids
-  pub room : start + lineBytes * length ids ≤ length text
+  pub room : lineBytes * length ids ≤ length text
 
--- what is kept of the students of a cohort, n of them eligible and placed, and a text buffer
-pub record Ready (ids numbers places : List ℕ) (n : ℕ) (p : Placed) (text : List ℕ) : Type 0 where
+-- what is kept of the students of a cohort, and a text buffer
+pub record Ready (rate population : ℕ) (ids numbers places aggregates text : List ℕ) : Type 0 where
+  pub cohort : Cohort aggregates rate population
   pub few : length ids ≤ mostStudents
   pub numbers-long : length numbers ≡ length ids
   pub places-long : length places ≡ length ids
-  pub within : n ≤ length ids
-  pub left : p .remainder ≤ n
+  pub eligible : eligibleKept 0 numbers ≡ length aggregates
   pub room : length text ≡ textBytes
 
 -- the listing, from what is kept
-abbrev pub listedKept : List ℕ → List ℕ → List ℕ → List ℕ → ℕ → Placed → List ℕ
-listedKept ids numbers places aggregates n p = cohortLine (length ids) n (p .remainder) ++ linesKept (columns aggregates p) 0 ids numbers places
+abbrev pub listedKept : List ℕ → List ℕ → List ℕ → List ℕ → List ℕ → ℕ → List ℕ
+listedKept ids numbers places aggregates table Y =
+    cohortLine (length ids) (length aggregates) (remainder aggregates table Y)
+    ++ linesKept (columnsOf aggregates table Y) 0 ids numbers places
 
 -- a cohort in buffers, and a text buffer
-pub record Read (rate population : ℕ) (ids counts results text : List ℕ) : Type 0 where
+pub record Read (rate population : ℕ) (catalogue ids counts results text : List ℕ) : Type 0 where
+  pub few-subjects : subjects catalogue ≤ mostSubjects
   pub populated : Populated rate population
   pub ids-long : length ids ≡ length counts
   pub few : Few counts results

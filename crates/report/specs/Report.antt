@@ -52,9 +52,9 @@ unfoldable pub linesOf : (Enrolled → Outcome Values) → Columns → ℕ → L
 linesOf outcomes c j [] = []
 linesOf outcomes c j (s ∷ students) = lineOf c j (s .id) (outcomes s) ++ linesOf outcomes c (afterOne j (outcomes s)) students
 
--- participation table, Y and the aggregates of the eligible: what is listed of them
-abbrev pub columnsOf : List ℕ → ℕ → List ℕ → Columns
-columnsOf table Y aggregates = record {
+-- the aggregates of the eligible, participation table, Y: what is listed of them
+abbrev pub columnsOf : List ℕ → List ℕ → ℕ → Columns
+columnsOf aggregates table Y = record {
   aggregates = aggregates;
   ranks = ranksOf aggregates;
   percentiles = percentilesOf aggregates;
@@ -66,7 +66,7 @@ abbrev pub listed : (Enrolled → Outcome Values) → List ℕ → ℕ → List 
 listed outcomes table Y students =
     let eligible = aggregatesOf outcomes students in
     cohortLine (length students) (length eligible) (remainder eligible table Y)
-    ++ linesOf outcomes (columnsOf table Y eligible) 0 students
+    ++ linesOf outcomes (columnsOf eligible table Y) 0 students
 
 -- the participation table of the population's rate
 abbrev pub participation : List ℕ → List ℕ

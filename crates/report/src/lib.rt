@@ -6,7 +6,6 @@ ghost use Rattle.report.specs.Sizes.{textBytes};
 ghost use Rattle.report.specs.Report.{outcome, listed, textOf};
 ghost use Rattle.report.specs.Inner.{studentsIn, listedKept, Ready, Read, Put};
 ghost use Rattle.report.specs.Promise.{Promise};
-use crate::placing::Placed;
 use cohort::Summary;
 use paper::limits::CATALOGUE_BYTES;
 use paper::limits::ENTRY_BYTES;
@@ -31,27 +30,50 @@ pub enum Answer {
 // The bytes of a lent text buffer.
 pub const TEXT_BYTES: usize = 65536;
 
-// The cohort's line, with n eligible students, then a line per student. Answers where the text ends.
-fn list_placed(
+// Ranks and places the eligible, and lists the cohort: its line, then a line per student. Answers where the text ends.
+fn list_kept(
+    summary: Summary,
     ids: &[u32],
     numbers: &[u8],
-    places: &[usize],
-    aggregates: &[u32; MOST_STUDENTS],
-    n: usize,
-    placed: Placed,
+    places: &[u8],
+    aggregates: &[u32],
     text: &mut [u8],
 ) -> usize
-    requires { ⌜ Ready (now ids) (now numbers) (now places) n placed (now text) ⌝ }
-    ensures { λ r. ⌜ Put (now (text .entry)) (now (text .exit)) 0 r (listedKept (now (ids .entry)) (now (numbers .entry)) (now (places .entry)) (now (aggregates .entry)) n placed) ⌝ }
+    requires { ⌜ Ready (summary .rate) (summary .population) (now ids) (now numbers) (now places) (now aggregates) (now text) ⌝ }
+    ensures { λ r. ⌜ Put (now (text .entry)) (now (text .exit)) 0 r
+        (listedKept (now (ids .entry)) (now (numbers .entry)) (now (places .entry)) (now (aggregates .entry)) (tableOf (summary .rate)) (summary .population)) ⌝ }
 {
-    let line = listing::cohort_line(ids.len() as u32, n as u32, placed.remainder as u32);
+    let n = aggregates.len();
+    let mut ranks = [0u32; MOST_STUDENTS];
+    let mut percentiles = [0u32; MOST_STUDENTS];
+    let mut bands = [0u16; MOST_STUDENTS];
+    let remainder = placing::place(
+        aggregates,
+        summary.rate,
+        summary.population,
+        &mut ranks[..n],
+        &mut percentiles[..n],
+        &mut bands[..n],
+    );
+    let line = listing::cohort_line(ids.len() as u32, n as u32, remainder as u32);
     let start = writing::append(text, 0, line);
-    lines::lines(ids, numbers, places, aggregates, placed, text, start)
+    let rest = &mut text[start..];
+    start
+        + lines::lines(
+            ids,
+            numbers,
+            places,
+            aggregates,
+            &ranks,
+            &percentiles,
+            &bands,
+            rest,
+        )
 }
 
-// Lists a cohort that was read: each student's outcome once, the eligible ranked and placed, the lines. Answers where the text ends.
+// Lists a cohort that was read: each student's outcome is kept. Answers where the text ends.
 fn list_read(
-    read: Summary,
+    summary: Summary,
     catalogue: &[u8],
     table: &[u8],
     ids: &[u32],
@@ -59,33 +81,31 @@ fn list_read(
     results: &[u8],
     text: &mut [u8],
 ) -> usize
-    requires { ⌜ Read (read .rate) (read .population) (now ids) (now counts) (now results) (now text) ⌝ }
+    requires { ⌜ Read (summary .rate) (summary .population) (now catalogue) (now ids) (now counts) (now results) (now text) ⌝ }
     ensures { λ r. ⌜ Put (now (text .entry)) (now (text .exit)) 0 r
-        (listed (outcome (now (catalogue .entry)) (now (table .entry)) (read .year)) (tableOf (read .rate)) (read .population)
+        (listed (outcome (now (catalogue .entry)) (now (table .entry)) (summary .year)) (tableOf (summary .rate)) (summary .population)
         (studentsIn (length (now (counts .entry))) (now (ids .entry)) (now (counts .entry)) (now (results .entry)))) ⌝ }
 {
     let students = counts.len();
     let mut aggregates = [0u32; MOST_STUDENTS];
     let mut numbers = [0u8; MOST_STUDENTS];
-    let mut places = [0usize; MOST_STUDENTS];
+    let mut places = [0u8; MOST_STUDENTS];
     let n = students::collect(
         catalogue,
         table,
-        read.year as u64,
+        summary.year as u64,
         counts,
         results,
         &mut aggregates,
         &mut numbers[..students],
         &mut places[..students],
     );
-    let placed = placing::place(read.rate, read.population, &aggregates[..n]);
-    list_placed(
+    list_kept(
+        summary,
         ids,
         &numbers[..students],
         &places[..students],
-        &aggregates,
-        n,
-        placed,
+        &aggregates[..n],
         text,
     )
 }

@@ -1,16 +1,28 @@
 // The lines of the students, from what is kept of each.
-ghost use Rattle.listing.specs.Lines.{Shows};
+ghost use mathlib.Core.Path.{_≡_};
+ghost use Prim.Native.Nat.{_*_, _≤_};
+ghost use lib.ListN.{length, getD};
+ghost use Rattle.listing.specs.Lines.{Shows, lineBytes};
 ghost use Rattle.report.specs.Inner.{columns, lineOr, linesKept, Listable, Put};
-use crate::placing::Placed;
 use crate::writing;
 use listing::writing::Line;
 use paper::limits::MOST_STUDENTS;
+
+// The i-th number, 0 past the end.
+fn number_at(numbers: &[u32], i: usize) -> u32
+    ensures { λ r. ⌜ r ≡ getD (now (numbers .entry)) i 0 ⌝ }
+{
+    if numbers.len() <= i {
+        return 0;
+    }
+    numbers[i]
+}
 
 // The line of a student, who is eligible if the number is 0.
 fn line_of(
     id: u32,
     number: u8,
-    place: usize,
+    place: u8,
     aggregate: u32,
     rank: u32,
     percentile: u32,
@@ -21,35 +33,38 @@ fn line_of(
     if number == 0 {
         return listing::student_line(id, aggregate, rank, percentile, band);
     }
-    listing::refused_line(id, number, place)
+    listing::refused_line(id, number, place as usize)
 }
 
-// Puts the lines of all students into the text from a place on, and answers where they end.
+// Puts the lines of all students into the text, and answers where they end.
 pub(crate) fn lines(
     ids: &[u32],
     numbers: &[u8],
-    places: &[usize],
-    aggregates: &[u32; MOST_STUDENTS],
-    placed: Placed,
+    places: &[u8],
+    aggregates: &[u32],
+    ranks: &[u32; MOST_STUDENTS],
+    percentiles: &[u32; MOST_STUDENTS],
+    bands: &[u16; MOST_STUDENTS],
     text: &mut [u8],
-    start: usize,
 ) -> usize
-    requires { ⌜ Listable (now ids) (now numbers) (now places) (now text) start ⌝ }
-    ensures { λ r. ⌜ Put (now (text .entry)) (now (text .exit)) start r (linesKept (columns (now (aggregates .entry)) placed) 0 (now (ids .entry)) (now (numbers .entry)) (now (places .entry))) ⌝ }
+    requires { ⌜ Listable (now ids) (now numbers) (now places) (now text) ⌝ }
+    ensures { λ r. ⌜ Put (now (text .entry)) (now (text .exit)) 0 r
+        (linesKept (columns (now (aggregates .entry)) (now (ranks .entry)) (now (percentiles .entry)) (now (bands .entry))) 0 (now (ids .entry)) (now (numbers .entry)) (now (places .entry)))
+        × (r ≤ lineBytes * length (now (ids .entry))) ⌝ }
 {
     let mut i = 0;
     let mut j = 0;
-    let mut end = start;
+    let mut end = 0;
     while i < ids.len() {
         let number = numbers[i];
         let line = line_of(
             ids[i],
             number,
             places[i],
-            aggregates[j],
-            placed.ranks[j],
-            placed.percentiles[j],
-            placed.bands[j],
+            number_at(aggregates, j),
+            ranks[j],
+            percentiles[j],
+            bands[j],
         );
         end = writing::append(text, end, line);
         if number == 0 {

@@ -1,38 +1,32 @@
 // The ranks, percentiles and bands of the eligible.
+ghost use mathlib.Core.Path.{_≡_};
 ghost use Rattle.curve.specs.Curve.{tableOf};
-ghost use Rattle.report.specs.Inner.{Placeable, Places};
+ghost use Rattle.bands.specs.Placing.{remainder};
+ghost use Rattle.report.specs.Report.{columnsOf};
+ghost use Rattle.report.specs.Inner.{columns, Placeable};
 use paper::limits::BAND_COUNT;
-use paper::limits::MOST_STUDENTS;
 
-// Of each of the eligible the rank, the percentile and the band, in file order, and then zeros; and the remainder.
-pub struct Placed {
-    pub ranks: [u32; MOST_STUDENTS],
-    pub percentiles: [u32; MOST_STUDENTS],
-    pub bands: [u16; MOST_STUDENTS],
-    pub remainder: usize,
-}
-
-// Ranks the eligible and places them in bands. That neither call refuses is ranks-accept and bands-accept in proofs/Accepting.antt.
-pub(crate) fn place(rate: u32, population: u32, aggregates: &[u32]) -> Placed
-    requires { ⌜ Placeable rate population (now aggregates) ⌝ }
-    ensures { λ r. ⌜ Places (tableOf rate) population (now (aggregates .entry)) r ⌝ }
+// Ranks the eligible and places them in bands, and answers the remainder. The table is drawn and neither call refuses: table-drawn,
+// ranks-accept and bands-accept in proofs/Accepting.antt.
+pub(crate) fn place(
+    aggregates: &[u32],
+    rate: u32,
+    population: u32,
+    ranks: &mut [u32],
+    percentiles: &mut [u32],
+    bands: &mut [u16],
+) -> usize
+    requires { ⌜ Placeable rate population (columns (now aggregates) (now ranks) (now percentiles) (now bands)) ⌝ }
+    ensures { λ r. ⌜ (columns (now (aggregates .entry)) (now (ranks .exit)) (now (percentiles .exit)) (now (bands .exit)) ≡ columnsOf (now (aggregates .entry)) (tableOf rate) population)
+        × (r ≡ remainder (now (aggregates .entry)) (tableOf rate) population) ⌝ }
 {
-    let n = aggregates.len();
-    let mut ranks = [0u32; MOST_STUDENTS];
-    let mut percentiles = [0u32; MOST_STUDENTS];
-    ranks::ranks(aggregates, &mut ranks[..n], &mut percentiles[..n]);
     let mut table = [0u32; BAND_COUNT];
     curve::draw(rate, &mut table);
-    let mut bands = [0u16; MOST_STUDENTS];
-    let placed = bands::place(aggregates, &table, population, &mut bands[..n]);
-    let mut remainder = 0;
-    if let bands::Answer::Accepted { remainder: left } = placed {
-        remainder = left;
+    ranks::ranks(aggregates, ranks, percentiles);
+    let placed = bands::place(aggregates, &table, population, bands);
+    let mut left = 0;
+    if let bands::Answer::Accepted { remainder } = placed {
+        left = remainder;
     }
-    Placed {
-        ranks,
-        percentiles,
-        bands,
-        remainder,
-    }
+    left
 }

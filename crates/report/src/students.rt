@@ -76,9 +76,9 @@ pub(crate) fn collect(
     results: &[u8],
     aggregates: &mut [u32],
     numbers: &mut [u8],
-    places: &mut [usize],
+    places: &mut [u8],
 ) -> usize
-    requires { ⌜ Keepable (now counts) (now results) (now aggregates) (now numbers) (now places) ⌝ }
+    requires { ⌜ Keepable (now catalogue) (now counts) (now results) (now aggregates) (now numbers) (now places) ⌝ }
     ensures { λ r. ⌜ Collected (outcome (now (catalogue .entry)) (now (table .entry)) year) (now (counts .entry)) (now (results .entry)) (now (aggregates .exit)) (now (numbers .exit)) (now (places .exit)) r ⌝ }
 {
     let mut i = 0;
@@ -89,7 +89,7 @@ pub(crate) fn collect(
         let answer = best_at(catalogue, table, year, results, place, count);
         eligible = join(answer, eligible, aggregates);
         numbers[i] = number_in(answer);
-        places[i] = place_in(answer);
+        places[i] = place_in(answer) as u8;
         place += RESULT_BYTES * count;
         i += 1;
     }
