@@ -47,12 +47,11 @@ pub record Few (counts results : List ℕ) : Type 0 where
   pub each : (i : ℕ) → i < length counts → getD counts i 0 ≤ mostResults
   pub bytes : length results ≡ resultsBytes
 
--- a catalogue of at most 64 subjects, such students, and a buffer for each column
-pub record Keepable (catalogue counts results aggregates numbers places : List ℕ) : Type 0 where
+-- a catalogue of at most 64 subjects, such students, and a buffer for aggregates and one for places
+pub record Keepable (catalogue counts results aggregates places : List ℕ) : Type 0 where
   pub few-subjects : subjects catalogue ≤ mostSubjects
   pub few : Few counts results
   pub aggregates-long : length aggregates ≡ mostStudents
-  pub numbers-long : length numbers ≡ length counts
   pub places-long : length places ≡ length counts
 
 -- the aggregate of an eligible student, kept as the j-th of a buffer

@@ -77,8 +77,8 @@ fn list_read(
     catalogue: &[u8],
     table: &[u8],
     ids: &[u32],
-    counts: &[u8],
     results: &[u8],
+    counts: &mut [u8],
     text: &mut [u8],
 ) -> usize
     requires { ⌜ Read (summary .rate) (summary .population) (now catalogue) (now ids) (now counts) (now results) (now text) ⌝ }
@@ -87,23 +87,23 @@ fn list_read(
         (studentsIn (length (now (counts .entry))) (now (ids .entry)) (now (counts .entry)) (now (results .entry)))) ⌝ }
 {
     let students = counts.len();
+    let year = summary.year as u64;
     let mut aggregates = [0u32; MOST_STUDENTS];
-    let mut numbers = [0u8; MOST_STUDENTS];
     let mut places = [0u8; MOST_STUDENTS];
     let n = students::collect(
         catalogue,
         table,
-        summary.year as u64,
-        counts,
+        year,
         results,
+        counts,
         &mut aggregates,
-        &mut numbers[..students],
         &mut places[..students],
     );
+    let numbers = counts;
     list_kept(
         summary,
         ids,
-        &numbers[..students],
+        numbers,
         &places[..students],
         &aggregates[..n],
         text,
@@ -141,8 +141,8 @@ fn list_file(file: &[u8], text: &mut [u8]) -> usize
                 &catalogue[..c],
                 &table[..t],
                 &ids[..students],
-                &counts[..students],
                 &results,
+                &mut counts[..students],
                 text,
             )
         }

@@ -67,19 +67,19 @@ fn join(answer: Answer, j: usize, aggregates: &mut [u32]) -> usize
     }
 }
 
-// Keeps what is told of each student, collects the aggregates of the eligible in file order, and counts these.
+// Keeps what is told of each student, collects the aggregates of the eligible in file order, and counts these. The number of a student's
+// results is not needed after it, and gives way to the number of its refusal.
 pub(crate) fn collect(
     catalogue: &[u8],
     table: &[u8],
     year: u64,
-    counts: &[u8],
     results: &[u8],
+    counts: &mut [u8],
     aggregates: &mut [u32],
-    numbers: &mut [u8],
     places: &mut [u8],
 ) -> usize
-    requires { ⌜ Keepable (now catalogue) (now counts) (now results) (now aggregates) (now numbers) (now places) ⌝ }
-    ensures { λ r. ⌜ Collected (outcome (now (catalogue .entry)) (now (table .entry)) year) (now (counts .entry)) (now (results .entry)) (now (aggregates .exit)) (now (numbers .exit)) (now (places .exit)) r ⌝ }
+    requires { ⌜ Keepable (now catalogue) (now counts) (now results) (now aggregates) (now places) ⌝ }
+    ensures { λ r. ⌜ Collected (outcome (now (catalogue .entry)) (now (table .entry)) year) (now (counts .entry)) (now (results .entry)) (now (aggregates .exit)) (now (counts .exit)) (now (places .exit)) r ⌝ }
 {
     let mut i = 0;
     let mut place = 0;
@@ -88,7 +88,7 @@ pub(crate) fn collect(
         let count = counts[i] as usize;
         let answer = best_at(catalogue, table, year, results, place, count);
         eligible = join(answer, eligible, aggregates);
-        numbers[i] = number_in(answer);
+        counts[i] = number_in(answer);
         places[i] = place_in(answer) as u8;
         place += RESULT_BYTES * count;
         i += 1;

@@ -2,9 +2,9 @@ use Rattle.report.proofs.Puts.{shows-own}
 use Rattle.report.proofs.Filed.{refused-text, Taken, zeros, zeros-sized, taken, few-subjects, few-students, sized, ready, accepted-text}
 use Rattle.report.specs.Inner.{Put}
 use Rattle.cohort.specs.Inner.{Sized}
-use Rattle.cohort.specs.Promise.{said, Lent, lent}
 use Rattle.cohort.specs.declared.Summary.{Summary}
-use Rattle.paper.specs.Limits.{entryBytes, rowBytes}
+use Rattle.cohort.specs.Promise.{said, Lent, lent}
+use Rattle.paper.specs.Limits.{entryBytes, rowBytes, mostSubjects, mostStudents}
 use lib.Seq.{length-take-le}
 use mathlib.Core.Path.{sym, ap, subst, _∙_}
 use Prim.Native.Nat.{_*_, _≤_}
@@ -17,6 +17,7 @@ use Rattle.listing.proofs.file_line.Reads as file-line-reads
 use Rattle.report.proofs.list_read.Reads as list-read-reads
 use Rattle.report.proofs.writing.append.Reads as append-reads
 
+-- from the reading: the start, what it left; and of an accepted file what is told
 abbrev begun : tie.After-read → tie.Start
 begun c = c .before .before .before .before .before .before .before .before .before
 
@@ -35,10 +36,10 @@ told c = taken _ zeros (c .before .before .before .read .result) (after c) (valu
 long : (c : tie.After-known-told2) → Sized (after c)
 long c = sized _ zeros (after c) (values c) zeros-sized (told c)
 
-subjects-few : (c : tie.After-known-told2) → values c .subjects ≤ 64
+subjects-few : (c : tie.After-known-told2) → values c .subjects ≤ mostSubjects
 subjects-few c = few-subjects _ zeros (after c) (values c) zeros-sized (told c)
 
-students-few : (c : tie.After-known-told2) → values c .students ≤ 512
+students-few : (c : tie.After-known-told2) → values c .students ≤ mostStudents
 students-few c = few-students _ zeros (after c) (values c) zeros-sized (told c)
 
 read-requires : tie.Need-read-requires
@@ -92,18 +93,18 @@ slice-aggregate-list-read-3 c =
     let d = c .before .before .before .before .before in
     sym (length-take-le (values d .students) (after d .ids) (omega (arith, students-few d, long d .ids)))
 
-array-share-prefix-counts : tie.Need-array-share-prefix-counts
-array-share-prefix-counts c =
-    let d = c .before .before .before .before .before in
+slice-aggregate-list-read-4 : tie.Need-slice-aggregate-list-read-4
+slice-aggregate-list-read-4 c = sym (long (c .before .before .before .before .before .before) .results)
+
+array-borrow-prefix-counts : tie.Need-array-borrow-prefix-counts
+array-borrow-prefix-counts c =
+    let d = c .before .before .before .before .before .before in
     omega (arith, students-few d, long d .counts)
 
-slice-aggregate-list-read-4 : tie.Need-slice-aggregate-list-read-4
-slice-aggregate-list-read-4 c =
-    let d = c .before .before .before .before .before .before in
-    sym (length-take-le (values d .students) (after d .counts) (omega (arith, students-few d, long d .counts)))
-
 slice-aggregate-list-read-5 : tie.Need-slice-aggregate-list-read-5
-slice-aggregate-list-read-5 c = sym (long (c .before .before .before .before .before .before .before) .results)
+slice-aggregate-list-read-5 c =
+    let d = c .before .before .before .before .before .before .before in
+    sym (length-take-le (values d .students) (after d .counts) (omega (arith, students-few d, long d .counts)))
 
 list-read-requires : tie.Need-list-read-requires
 list-read-requires c κs =
@@ -125,8 +126,8 @@ same-length-2 c = search needs
 
 returns-2 : tie.Need-returns-2
 returns-2 c =
-    let d = c .before .before .before .before .before .before .before .before .before .before .before in
-    subst (Put (begun (d .before .before .before) .args .text .now) (c .before .before .list-read .last .1 .1 .1 .1 .1 .1 .0) 0 (c .before .before .list-read .result)) (accepted-text _ zeros (after d) (values d) zeros-sized (told d)) (c .before .before .list-read .ensures)
+    let d = c .before .before .before .before .before .before .before .before .before .before .before .before in
+    subst (Put (begun (d .before .before .before) .args .text .now) (c .before .before .before .list-read .last .1 .1 .1 .1 .1 .1 .0) 0 (c .before .before .before .list-read .result)) (accepted-text _ zeros (after d) (values d) zeros-sized (told d)) (c .before .before .before .list-read .ensures)
 
 pub list-file-spec : {M : Type 1} → statement M
 list-file-spec =
@@ -145,8 +146,8 @@ list-file-spec =
     slice-aggregate-list-read-2
     array-share-prefix-ids
     slice-aggregate-list-read-3
-    array-share-prefix-counts
     slice-aggregate-list-read-4
+    array-borrow-prefix-counts
     slice-aggregate-list-read-5
     list-read-requires
     same-length

@@ -1,6 +1,6 @@
 use Rattle.report.proofs.Keeping.{eligible-are, listed-told}
 use Rattle.report.proofs.Bounded.{collected-cohort}
-use Rattle.report.specs.Inner.{eligibleKept, listedKept, Put}
+use Rattle.report.specs.Inner.{listedKept, Put}
 use Rattle.curve.specs.Curve.{tableOf}
 use Rattle.paper.specs.Limits.{mostStudents}
 use lib.Seq.{length-take-le, take-at}
@@ -27,10 +27,10 @@ abbrev buffer : tie.After-collect → List ℕ
 buffer c = c .collect .last .1 .1 .1 .1 .1 .0
 
 abbrev numbers : tie.After-collect → List ℕ
-numbers c = c .collect .last .1 .1 .1 .1 .1 .1 .0
+numbers c = c .collect .last .1 .1 .1 .1 .0
 
 abbrev places : tie.After-collect → List ℕ
-places c = c .collect .last .1 .1 .1 .1 .1 .1 .1 .0
+places c = c .collect .last .1 .1 .1 .1 .1 .1 .0
 
 -- a column stands at the front of its array
 abbrev after : tie.After-collect → List ℕ
@@ -45,85 +45,72 @@ front-long c xs l = ap length (front c xs l) ∙ l
 eligible-long : (c : tie.After-collect) → length (take (c .collect .result) (buffer c)) ≡ c .collect .result
 eligible-long c = length-take-le _ _ (omega (arith, c .collect .ensures .long, c .collect .ensures .within, begun c .pre .few .students))
 
-cast-collect : tie.Need-cast-collect
-cast-collect c = search needs
+cast-year : tie.Need-cast-year
+cast-year c = search needs
 
 slice-aggregate-collect : tie.Need-slice-aggregate-collect
 slice-aggregate-collect c = search needs
 
-array-borrow-prefix-numbers : tie.Need-array-borrow-prefix-numbers
-array-borrow-prefix-numbers c = search needs
-
-slice-aggregate-collect-2 : tie.Need-slice-aggregate-collect-2
-slice-aggregate-collect-2 c = sym (part (c .before .before .before .before .before .before .before .before .before .args .counts .now) (c .before .before .before .before .before .before .before .before .before .pre .few .students))
-
 array-borrow-prefix-places : tie.Need-array-borrow-prefix-places
 array-borrow-prefix-places c = search needs
 
-slice-aggregate-collect-3 : tie.Need-slice-aggregate-collect-3
-slice-aggregate-collect-3 c = sym (part (c .before .before .before .before .before .before .before .before .before .before .args .counts .now) (c .before .before .before .before .before .before .before .before .before .before .pre .few .students))
+slice-aggregate-collect-2 : tie.Need-slice-aggregate-collect-2
+slice-aggregate-collect-2 c = sym (part (c .before .before .before .before .before .before .before .before .before .before .args .counts .now) (c .before .before .before .before .before .before .before .before .before .before .pre .few .students))
 
 collect-requires : tie.Need-collect-requires
-collect-requires c κs =
-    let room = part (c .before .before .before .before .before .before .before .before .before .before .args .counts .now) (c .before .before .before .before .before .before .before .before .before .before .pre .few .students) in
-    record { few-subjects = c .before .before .before .before .before .before .before .before .before .before .pre .few-subjects; few = c .before .before .before .before .before .before .before .before .before .before .pre .few; aggregates-long = length-replicate {A = ℕ} mostStudents 0; numbers-long = room; places-long = room }
-
-array-share-prefix-numbers : tie.Need-array-share-prefix-numbers
-array-share-prefix-numbers c =
-    let d = c .before .before .before in
-    omega (arith, length-append (numbers d) (after d), d .collect .ensures .numbers-long)
-
-slice-aggregate-list-kept : tie.Need-slice-aggregate-list-kept
-slice-aggregate-list-kept c =
-    let d = c .before .before .before .before in
-    sym (front-long d (numbers d) (d .collect .ensures .numbers-long))
+collect-requires c κs = record { few-subjects = c .before .before .before .before .before .before .before .before .before .before .pre .few-subjects; few = c .before .before .before .before .before .before .before .before .before .before .pre .few; aggregates-long = length-replicate {A = ℕ} mostStudents 0; places-long = part (c .before .before .before .before .before .before .before .before .before .before .args .counts .now) (c .before .before .before .before .before .before .before .before .before .before .pre .few .students) }
 
 array-share-prefix-places : tie.Need-array-share-prefix-places
 array-share-prefix-places c =
-    let d = c .before .before .before .before in
+    let d = c .before .before .before .before .before in
     omega (arith, length-append (places d) (after d), d .collect .ensures .places-long)
 
-slice-aggregate-list-kept-2 : tie.Need-slice-aggregate-list-kept-2
-slice-aggregate-list-kept-2 c =
-    let d = c .before .before .before .before .before in
+slice-aggregate-list-kept : tie.Need-slice-aggregate-list-kept
+slice-aggregate-list-kept c =
+    let d = c .before .before .before .before .before .before in
     sym (front-long d (places d) (d .collect .ensures .places-long))
 
 array-share-prefix-aggregates : tie.Need-array-share-prefix-aggregates
 array-share-prefix-aggregates c =
-    let d = c .before .before .before .before .before in
+    let d = c .before .before .before .before .before .before in
     omega (arith, d .collect .ensures .long, d .collect .ensures .within, begun d .pre .few .students)
 
-slice-aggregate-list-kept-3 : tie.Need-slice-aggregate-list-kept-3
-slice-aggregate-list-kept-3 c = sym (eligible-long (c .before .before .before .before .before .before))
+slice-aggregate-list-kept-2 : tie.Need-slice-aggregate-list-kept-2
+slice-aggregate-list-kept-2 c = sym (eligible-long (c .before .before .before .before .before .before .before))
 
 list-kept-requires : tie.Need-list-kept-requires
 list-kept-requires c κs =
-    let d = c .before .before .before .before .before .before .before in
+    let d = c .before .before .before .before .before .before .before .before in
     let a = begun d .args in
     let p = begun d .pre in
     let w = d .collect .ensures in
     record {
       cohort = collected-cohort (a .catalogue .now) (a .table .now) (a .summary .year) (a .summary .rate) (a .summary .population) (a .counts .now) (a .results .now) (buffer d) (numbers d) (places d) (d .collect .result) (p .few .students) (p .populated) w;
       few = omega (arith, p .ids-long, p .few .students);
-      numbers-long = front-long d (numbers d) (w .numbers-long) ∙ sym (p .ids-long);
+      numbers-long = w .numbers-long ∙ sym (p .ids-long);
       places-long = front-long d (places d) (w .places-long) ∙ sym (p .ids-long);
-      eligible = ap (eligibleKept 0) (front d (numbers d) (w .numbers-long)) ∙ eligible-are (a .catalogue .now) (a .table .now) (a .summary .year) (tableOf (a .summary .rate)) (a .summary .population) (a .ids .now) (a .counts .now) (a .results .now) (take (d .collect .result) (buffer d)) (numbers d) (places d) (w .are (a .ids .now));
+      eligible = eligible-are (a .catalogue .now) (a .table .now) (a .summary .year) (tableOf (a .summary .rate)) (a .summary .population) (a .ids .now) (a .counts .now) (a .results .now) (take (d .collect .result) (buffer d)) (numbers d) (places d) (w .are (a .ids .now));
       room = p .room;
     }
+
+slice-home-numbers : tie.Need-slice-home-numbers
+slice-home-numbers c = search needs
 
 same-length : tie.Need-same-length
 same-length c = search needs
 
+same-length-2 : tie.Need-same-length-2
+same-length-2 c = search needs
+
 returns : tie.Need-returns
 returns c =
-    let d = c .before .before .before .before .before .before .before .before .before .before in
+    let d = c .before .before .before .before .before .before .before .before .before .before .before in
     let a = begun d .args in
     let w = d .collect .ensures in
-    let x = front d (numbers d) (w .numbers-long) in
     let y = front d (places d) (w .places-long) in
     let kept = take (d .collect .result) (buffer d) in
     subst (Put (a .text .now) (c .before .before .list-kept .last .1 .1 .1 .1 .1 .0) 0 (c .before .before .list-kept .result))
-    ((λ i. listedKept (a .ids .now) (x i) (y i) kept (tableOf (a .summary .rate)) (a .summary .population))
+    ((λ i. listedKept (a .ids .now) (numbers d) (y i) kept (tableOf (a .summary .rate)) (a .summary .population))
     ∙ listed-told (a .catalogue .now) (a .table .now) (a .summary .year) (tableOf (a .summary .rate)) (a .summary .population) (a .ids .now) (a .counts .now) (a .results .now) kept (numbers d) (places d) (begun d .pre .ids-long) (w .are (a .ids .now)))
     (c .before .before .list-kept .ensures)
 
@@ -131,19 +118,17 @@ pub list-read-spec : {M : Type 1} → statement M
 list-read-spec =
     tie.close
     (tie.spec
-    cast-collect
+    cast-year
     slice-aggregate-collect
-    array-borrow-prefix-numbers
-    slice-aggregate-collect-2
     array-borrow-prefix-places
-    slice-aggregate-collect-3
+    slice-aggregate-collect-2
     collect-requires
-    array-share-prefix-numbers
-    slice-aggregate-list-kept
     array-share-prefix-places
-    slice-aggregate-list-kept-2
+    slice-aggregate-list-kept
     array-share-prefix-aggregates
-    slice-aggregate-list-kept-3
+    slice-aggregate-list-kept-2
     list-kept-requires
+    slice-home-numbers
     same-length
+    same-length-2
     returns)
