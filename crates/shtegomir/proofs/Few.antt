@@ -7,7 +7,7 @@ use lib.ListN.{length}
 use borrow.Author.Tests.{ltb-false}
 use Rattle.paper.specs.Limits.{mostStudents, mostTallied}
 use Rattle.paper.specs.Rulings.{Outcome, accepted, refused, valuesOr, Rule, judged}
-use Rattle.paper.proofs.Ruled.{all-kept, given-values}
+use Rattle.paper.proofs.Ruled.{all-unbroken, given-values}
 use Rattle.bands.specs.Placing.{remainder}
 use Rattle.bands.specs.Promise.{said, sizeRules, countsRule, tableRules, aggregateRules, Promise, Lent, TallyPromise}
 use Rattle.bands.specs.declared.Answer.{Answer}
@@ -23,7 +23,7 @@ few limit aggregates table Y bands more (accepted n) e =
       arith,
       given-values rules (remainder aggregates table Y) n (sym e),
       remainder-within aggregates table Y,
-      ltb-false limit (length aggregates) (all-kept rules (remainder aggregates table Y) n (sym e) .0),
+      ltb-false limit (length aggregates) (all-unbroken rules (remainder aggregates table Y) n (sym e) .0),
     )
 
 -- so of every answer that the promises permit
