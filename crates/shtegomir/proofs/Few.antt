@@ -28,7 +28,7 @@ few limit aggregates table Y bands more (accepted n) e =
 
 -- so of every answer that the promises permit
 pub direct-few : (aggregates table : List ℕ) (Y : ℕ) (before : List ℕ) {r : Answer} {after : List ℕ} → Promise aggregates table Y before r after → valuesOr 0 (said r) ≤ mostStudents
-direct-few aggregates table Y before {r = r} p = few mostStudents aggregates table Y (length before) (tableRules Y table ++ aggregateRules aggregates) (said r) (p .says)
+direct-few aggregates table Y before {r = r} p = few mostStudents aggregates table Y (length before) (tableRules table Y ++ aggregateRules aggregates) (said r) (p .says)
 
 pub tally-few : (aggregates table : List ℕ) (Y : ℕ) (before : Lent) {r : Answer} {after : Lent} → TallyPromise aggregates table Y before r after → valuesOr 0 (said r) ≤ mostTallied
-tally-few aggregates table Y before {r = r} p = few mostTallied aggregates table Y (length (before .bands)) (countsRule (length (before .counts)) ∷ tableRules Y table ++ aggregateRules aggregates) (said r) (p .says)
+tally-few aggregates table Y before {r = r} p = few mostTallied aggregates table Y (length (before .bands)) (countsRule (length (before .counts)) ∷ tableRules table Y ++ aggregateRules aggregates) (said r) (p .says)
