@@ -1,4 +1,5 @@
-/* The layout of each struct: the header's flat one lies as the library's does, in which what is told stands first as a struct of its own. */
+/* The layout of each struct: the header's flat one lies as the same struct nested in C, in which what is told stands first as a struct of its
+   own, as it does in the library. The calls of the other programs here hold the library to it. */
 #include <stddef.h>
 #include <stdio.h>
 
@@ -29,14 +30,14 @@ struct text {
     uint64_t length;
 };
 
-/* of the size that the library's has, with refusal and place at 0 and 8 */
+/* of the size that the nested one has, with refusal and place at 0 and 8 */
 #define AS_LONG(flat, ours, bytes)                                                           \
     _Static_assert(sizeof(struct flat) == (bytes) && sizeof(struct ours) == (bytes), #flat); \
     _Static_assert(offsetof(struct flat, refusal) == 0, #flat " refusal");                   \
     _Static_assert(offsetof(struct flat, place) == 8, #flat " place");                       \
     _Static_assert(_Alignof(struct flat) == _Alignof(struct ours), #flat " alignment")
 
-/* a value at the place where the library has it */
+/* a value at the place where the nested one has it */
 #define AT(flat, ours, value, bytes)                                           \
     _Static_assert(offsetof(struct flat, value) == (bytes), #flat " " #value); \
     _Static_assert(offsetof(struct ours, value) == (bytes), #flat " " #value)

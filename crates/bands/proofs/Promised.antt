@@ -11,7 +11,7 @@ use Rattle.paper.proofs.Promised as every
 use Rattle.paper.specs.Lists.{firstOver}
 use Rattle.paper.proofs.Firsts.{none-over}
 use Rattle.paper.proofs.Ranging.{within-true}
-use Rattle.paper.proofs.Ruled.{refusal-fault, Unbroken, kept-parts, Tabled, tabled}
+use Rattle.paper.proofs.Ruled.{refusal-fault, Unbroken, unbroken-parts, Tabled, tabled}
 use Rattle.tally.specs.Counts.{tallyOf}
 use Rattle.tally.proofs.Tallies.{tally-exists, tally-once}
 use Rattle.bands.specs.Placing.{BestPlacement, remainder}
@@ -77,7 +77,7 @@ module _ (aggregates table : List ℕ) (Y : ℕ) (before : Lent) where
 
 -- what the screening clears is ready to be placed
 ready : (limit : ℕ) (aggregates table : List ℕ) (Y : ℕ) (bands : List ℕ) → limit ≤ mostTallied → Unbroken (sizeRules limit (length aggregates) (length table) (length bands))
-    → Unbroken (tableRules Y table ++ aggregateRules aggregates) → Ready aggregates table Y bands
+    → Unbroken (tableRules table Y ++ aggregateRules aggregates) → Ready aggregates table Y bands
 ready limit aggregates table Y bands m s k =
     record {
       students = record {
@@ -94,11 +94,11 @@ ready limit aggregates table Y bands m s k =
 
 pub direct-ready : (aggregates table : List ℕ) (Y : ℕ) (bands : List ℕ) → Unbroken (directRules aggregates table Y (length bands)) → Ready aggregates table Y bands
 direct-ready aggregates table Y bands h =
-    let k = kept-parts (sizeRules mostStudents (length aggregates) (length table) (length bands)) (tableRules Y table ++ aggregateRules aggregates) h in
+    let k = unbroken-parts (sizeRules mostStudents (length aggregates) (length table) (length bands)) (tableRules table Y ++ aggregateRules aggregates) h in
     ready mostStudents aggregates table Y bands (omega arith) (k .0) (k .1)
 
 pub tally-ready : (aggregates table : List ℕ) (Y : ℕ) (bands counts : List ℕ) → Unbroken (tallyRules aggregates table Y (length bands) (length counts))
     → TallyReady aggregates table Y bands counts
 tally-ready aggregates table Y bands counts h =
-    let k = kept-parts (sizeRules mostTallied (length aggregates) (length table) (length bands)) (countsRule (length counts) ∷ tableRules Y table ++ aggregateRules aggregates) h in
+    let k = unbroken-parts (sizeRules mostTallied (length aggregates) (length table) (length bands)) (countsRule (length counts) ∷ tableRules table Y ++ aggregateRules aggregates) h in
     record { ready = ready mostTallied aggregates table Y bands (omega arith) (k .0) (k .1 .1); long = eqb-true (length counts) tallyCount (not-false _ (k .1 .0)) }

@@ -35,8 +35,8 @@ abbrev pub countsRule : ℕ → Rule
 countsRule counts = counts ≠? tallyCount ⇒ 11 at 0
 
 -- 9: Y zero or over 1000000; 13: an entry over 1000000
-abbrev pub tableRules : ℕ → List ℕ → List Rule
-tableRules Y table =
+abbrev pub tableRules : List ℕ → ℕ → List Rule
+tableRules table Y =
     not (within 1 mostPopulation Y) ⇒ 9 at 0
     ∷ someOver mostEntry table ⇒ 13 at firstOver mostEntry table
     ∷ []
@@ -49,7 +49,7 @@ aggregateRules aggregates = someOver mostAggregate aggregates ⇒ 12 at firstOve
 abbrev pub directRules : List ℕ → List ℕ → ℕ → ℕ → List Rule
 directRules aggregates table Y bands =
     sizeRules mostStudents (length aggregates) (length table) bands
-    ++ (tableRules Y table ++ aggregateRules aggregates)
+    ++ (tableRules table Y ++ aggregateRules aggregates)
 
 -- aggregates, table, Y, the lent bands
 abbrev pub ruling : List ℕ → List ℕ → ℕ → List ℕ → Outcome ℕ
@@ -71,7 +71,7 @@ lent bands counts = record { bands = bands; counts = counts }
 abbrev pub tallyRules : List ℕ → List ℕ → ℕ → ℕ → ℕ → List Rule
 tallyRules aggregates table Y bands counts =
     sizeRules mostTallied (length aggregates) (length table) bands
-    ++ (countsRule counts ∷ tableRules Y table ++ aggregateRules aggregates)
+    ++ (countsRule counts ∷ tableRules table Y ++ aggregateRules aggregates)
 
 abbrev pub tallyRuling : List ℕ → List ℕ → ℕ → Lent → Outcome ℕ
 tallyRuling aggregates table Y before = judged (tallyRules aggregates table Y (length (before .bands)) (length (before .counts))) (remainder aggregates table Y)

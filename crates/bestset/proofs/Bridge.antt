@@ -15,7 +15,7 @@ use Rattle.paper.specs.Words.{_<?_}
 use Rattle.paper.specs.declared.refusal.Refusal.{Refusal}
 use Rattle.paper.specs.declared.refusal.Refusal.the-variants.{Again, NoEnglish}
 use Rattle.paper.proofs.Booleans.{both-true, true-both}
-use Rattle.paper.proofs.Ruled.{Unbroken, all-kept, kept-parts, kept-turns, after-kept, before-refused}
+use Rattle.paper.proofs.Ruled.{Unbroken, all-unbroken, unbroken-parts, unbroken-turns, after-unbroken, before-refused}
 use Rattle.catalogue.specs.Catalogue.{subjects, catalogueRules}
 use Rattle.catalogue.specs.Kinds.{english, mathematics, general, externalExamination}
 use Rattle.catalogue.proofs.Promised.{kept-sound}
@@ -95,9 +95,9 @@ module _ (s : Student) (table : List ℕ) (w : WellFormed s table) where
   rules-kept =
       let turns = turnRules s table in
       let rest = turns ++ (repeatRule s ∷ []) in
-      let k = kept-parts (catalogueRules (s .catalogue)) (inputRules s table ++ rest) (all-kept (studentRules s table) tt tt w) in
-      let l = kept-parts (inputRules s table) rest (k .1) in
-      (k .0, l .0, kept-turns (held s) (resultRules s table) (kept-parts turns (repeatRule s ∷ []) (l .1) .0))
+      let k = unbroken-parts (catalogueRules (s .catalogue)) (inputRules s table ++ rest) (all-unbroken (studentRules s table) tt tt w) in
+      let l = unbroken-parts (inputRules s table) rest (k .1) in
+      (k .0, l .0, unbroken-turns (held s) (resultRules s table) (unbroken-parts turns (repeatRule s ∷ []) (l .1) .0))
 
   -- so at most mostResults results are held
   pub few-held : held s ≤ mostResults
@@ -265,7 +265,7 @@ module _ (s : Student) (table : List ℕ) where
   module _ (w : WellFormed s table) where
     english-decides : (b : Bool) → showsEnglish s ≡ b → ruling s table ≡ judged (not b ⇒ 7 at 0 ∷ []) tt
     english-decides b e =
-        after-kept (studentRules s table) _ tt (all-kept (studentRules s table) tt tt w) ∙ ap (λ (t : Bool). judged (not t ⇒ 7 at 0 ∷ []) tt) e
+        after-unbroken (studentRules s table) _ tt (all-unbroken (studentRules s table) tt tt w) ∙ ap (λ (t : Bool). judged (not t ⇒ 7 at 0 ∷ []) tt) e
 
     -- 7
     pub promise-english : showsEnglish s ≡ false → Promise s table (Refused NoEnglish)

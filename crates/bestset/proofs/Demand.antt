@@ -5,7 +5,7 @@ use mathlib.Core.Path.{_≡_, refl, sym, ap, subst, _∙_}
 use mathlib.Core.Bool.{Bool, true, false, not}
 use mathlib.Core.List.{List, [], _∷_}
 use Rattle.paper.specs.Rulings.{Fault, Outcome, accepted, refused, Rule, _⇒_, _at_, judged}
-use Rattle.paper.proofs.Ruled.{all-kept, after-kept}
+use Rattle.paper.proofs.Ruled.{all-unbroken, after-unbroken}
 use Rattle.results.specs.Results.{Student}
 use Rattle.results.specs.Counting.{showsEnglish}
 use Rattle.bestset.specs.Admissible.{Admissible}
@@ -26,7 +26,7 @@ module _ (s : Student) (table : List ℕ) (formed : WellFormed s table) (r : Ans
   ruled : (shown : Bool) → showsEnglish s ≡ shown → RuledBy s table (judged (englishRules shown) tt) (said r)
   ruled shown e =
       subst (λ (o : Outcome (Unit {0})). RuledBy s table o (said r))
-      (after-kept (studentRules s table) (englishRules (showsEnglish s)) tt (all-kept (studentRules s table) tt tt formed) ∙ ap (λ (b : Bool). judged (englishRules b) tt) e)
+      (after-unbroken (studentRules s table) (englishRules (showsEnglish s)) tt (all-unbroken (studentRules s table) tt tt formed) ∙ ap (λ (b : Bool). judged (englishRules b) tt) e)
       (promised .says)
 
   -- without English: exactly 7

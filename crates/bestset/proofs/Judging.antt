@@ -5,7 +5,7 @@ use mathlib.Core.List.{List, [], _∷_, _++_, append-assoc}
 use borrow.Author.Tests.{ltb-false}
 use Rattle.paper.specs.Limits.{mostResults}
 use Rattle.paper.specs.Rulings.{Fault, Outcome, refused, Rule, judged}
-use Rattle.paper.proofs.Ruled.{Unbroken, all-kept, kept-parts, after-kept, before-refused}
+use Rattle.paper.proofs.Ruled.{Unbroken, all-unbroken, unbroken-parts, after-unbroken, before-refused}
 use Rattle.catalogue.specs.Catalogue.{catalogueRules}
 use Rattle.results.specs.Results.{Student, held}
 use Rattle.bestset.specs.Rules.{inputRules, turnRules, repeatRule, studentRules}
@@ -21,13 +21,13 @@ module _ (s : Student) (table : List ℕ) where
 
   module _ (whole : Unbroken (catalogueRules (s .catalogue))) where
     input-left : judges (readRules s table) ≡ judges (inputRules s table ++ turnRules s table)
-    input-left = after-kept (catalogueRules (s .catalogue)) (inputRules s table ++ turnRules s table) tt whole
+    input-left = after-unbroken (catalogueRules (s .catalogue)) (inputRules s table ++ turnRules s table) tt whole
 
     pub input-refused : (f : Fault) → judges (inputRules s table) ≡ refused f → judges (readRules s table) ≡ refused f
     input-refused f e = input-left ∙ before-refused (inputRules s table) (turnRules s table) tt tt f e
 
     pub results-left : Unbroken (inputRules s table) → judges (readRules s table) ≡ judges (turnRules s table)
-    results-left sized = input-left ∙ after-kept (inputRules s table) (turnRules s table) tt sized
+    results-left sized = input-left ∙ after-unbroken (inputRules s table) (turnRules s table) tt sized
 
   -- the rules before 6 decide first, and once they are kept 6 does
   grouped : readRules s table ++ (repeatRule s ∷ []) ≡ studentRules s table
@@ -39,10 +39,10 @@ module _ (s : Student) (table : List ℕ) where
   read-refused f e = ap judges (sym grouped) ∙ before-refused (readRules s table) (repeatRule s ∷ []) tt tt f e
 
   pub repeat-left : Readable s table → judges (studentRules s table) ≡ judges (repeatRule s ∷ [])
-  repeat-left e = ap judges (sym grouped) ∙ after-kept (readRules s table) (repeatRule s ∷ []) tt (all-kept (readRules s table) tt tt e)
+  repeat-left e = ap judges (sym grouped) ∙ after-unbroken (readRules s table) (repeatRule s ∷ []) tt (all-unbroken (readRules s table) tt tt e)
 
   -- what can be read has few results
   pub few-read : Readable s table → held s ≤ mostResults
   few-read e =
-      let k = kept-parts (catalogueRules (s .catalogue)) (inputRules s table ++ turnRules s table) (all-kept (readRules s table) tt tt e) in
-      ltb-false mostResults (held s) (kept-parts (inputRules s table) (turnRules s table) (k .1) .0 .1 .1 .1 .0)
+      let k = unbroken-parts (catalogueRules (s .catalogue)) (inputRules s table ++ turnRules s table) (all-unbroken (readRules s table) tt tt e) in
+      ltb-false mostResults (held s) (unbroken-parts (inputRules s table) (turnRules s table) (k .1) .0 .1 .1 .1 .0)

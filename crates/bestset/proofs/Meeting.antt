@@ -8,7 +8,7 @@ use Rattle.paper.specs.Limits.{mostResults}
 use Rattle.paper.specs.Promises.{Permits}
 use Rattle.paper.specs.Rulings.{Outcome, accepted, refused, _⇒_, _at_}
 use Rattle.paper.proofs.Promised as every
-use Rattle.paper.proofs.Ruled.{all-kept, kept-all, kept-parts, Tabled, Refusing, tabled, tabled-join, tabled-turns}
+use Rattle.paper.proofs.Ruled.{all-unbroken, unbroken-all, unbroken-parts, Tabled, Refusing, tabled, tabled-join, tabled-turns}
 use Rattle.seek.proofs.Digits.{all-below}
 use Rattle.results.specs.Results.{Student, held}
 use Rattle.results.specs.Counting.{showsEnglish}
@@ -30,7 +30,7 @@ set-held s set h = all-below mostResults (held s) set (h .bits) (λ i m. kept-he
 accepted-formed : (s : Student) (table : List ℕ) (u : Unit {0}) → ruling s table ≡ accepted u → WellFormed s table
 accepted-formed s table u e =
     let seven = not (showsEnglish s) ⇒ 7 at 0 ∷ [] in
-    kept-all (studentRules s table) tt (kept-parts (studentRules s table) seven (all-kept (studentRules s table ++ seven) tt u e) .0)
+    unbroken-all (studentRules s table) tt (unbroken-parts (studentRules s table) seven (all-unbroken (studentRules s table ++ seven) tt u e) .0)
 
 -- the choice among all sets of the results is what is asked
 module _ (s : Student) (table : List ℕ) where

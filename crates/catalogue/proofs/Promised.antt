@@ -13,7 +13,7 @@ use Rattle.paper.specs.declared.screening.Verdict.{Verdict}
 use Rattle.paper.proofs.Firsts.{some-not, none-has}
 use Rattle.paper.proofs.Promised as every
 use Rattle.paper.proofs.Promised.{rules-is, owes-none}
-use Rattle.paper.proofs.Ruled.{Unbroken, all-kept, kept-all, Tabled, tabled}
+use Rattle.paper.proofs.Ruled.{Unbroken, all-unbroken, unbroken-all, Tabled, tabled}
 use Rattle.paper.proofs.Screens.{tells}
 use Rattle.catalogue.specs.Catalogue.{subjects, entryAt, outside, outsideAt, catalogueRules}
 use Rattle.catalogue.specs.Meaning.{Sound}
@@ -54,7 +54,7 @@ sound-kept catalogue s =
     (ap not (eq-eqb _ _ w), (le-ltb _ _ (s .few), (none-has (subjects catalogue) (outsideAt catalogue) (λ i l. not-outside (entryAt catalogue i) (s .ranged i l)), tt)))
 
 pub accepted-sound : (catalogue : List ℕ) → ruling catalogue ≡ accepted tt → Sound catalogue
-accepted-sound catalogue e = kept-sound catalogue (all-kept (catalogueRules catalogue) tt tt e)
+accepted-sound catalogue e = kept-sound catalogue (all-unbroken (catalogueRules catalogue) tt tt e)
 
 pub sound-accepted : (catalogue : List ℕ) → Sound catalogue → ruling catalogue ≡ accepted tt
-sound-accepted catalogue s = kept-all (catalogueRules catalogue) tt (sound-kept catalogue s)
+sound-accepted catalogue s = unbroken-all (catalogueRules catalogue) tt (sound-kept catalogue s)

@@ -13,7 +13,7 @@ use Rattle.cohort.specs.Held.{Enrolled, Held}
 abbrev pub withYear : Held → List ℕ → Held
 withYear held v = record { year = word v 0; catalogue = held .catalogue; table = held .table; figures = held .figures; students = held .students }
 
--- 2: a catalogue entry, and the subject's row, every slot missing
+-- 2: a catalogue entry, and the subject's row, every slot missing, by a name that unfolds to its 200 bytes only where they are asked for
 unfoldable pub newRow : List ℕ
 newRow = missingRow
 

@@ -31,7 +31,7 @@ fn read_input(file: &mut [u8]) -> Input
     Input::Read(n)
 }
 
-// Writes the listing of a file.
+// Writes the listing of a file. A text buffer of its length is accepted, whatever the file: `room` (report/proofs/Promised.antt).
 fn list(file: &[u8]) {
     let mut text = [0u8; TEXT_BYTES];
     let answer = report::report(file, &mut text);

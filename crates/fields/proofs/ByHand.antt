@@ -6,7 +6,7 @@ use lib.ListN.{replicate}
 use Rattle.paper.specs.Limits.{mostResults}
 use Rattle.paper.specs.Bytes.{word, wordBytes}
 use Rattle.paper.specs.Rulings.{Outcome, accepted, refused, _at_, judged}
-use Rattle.fields.specs.Fields.{Field, fileOf, whole, cut, pieces, piecesOf, placed}
+use Rattle.fields.specs.Fields.{Field, fileOf, whole, cut, pieces, piecesOf, besideOffsets}
 use Rattle.fields.specs.Order.{start, further, orderRules, endRules}
 use Rattle.fields.specs.declared.order.Far.{Far}
 use Rattle.fields.specs.Inner.{headAt}
@@ -33,7 +33,7 @@ bytes = (refl, refl)
 -- each beside its offset; a file that ends in a value, in a length, after a tag; a field with no value at the end
 pub standing :
     (piecesOf (fileOf (two ∷ long ∷ two ∷ [])) ≡ whole 0 two ∷ whole 5 long ∷ whole 308 two ∷ [])
-    × (placed 0 (two ∷ long ∷ two ∷ []) ≡ whole 0 two ∷ whole 5 long ∷ whole 308 two ∷ [])
+    × (besideOffsets 0 (two ∷ long ∷ two ∷ []) ≡ whole 0 two ∷ whole 5 long ∷ whole 308 two ∷ [])
     × (piecesOf (1 ∷ 0 ∷ 2 ∷ 7 ∷ 229 ∷ 6 ∷ 0 ∷ 1 ∷ []) ≡ whole 0 two ∷ cut 5 ∷ [])
     × (piecesOf (1 ∷ 0 ∷ 2 ∷ 7 ∷ 229 ∷ 6 ∷ 0 ∷ []) ≡ whole 0 two ∷ cut 5 ∷ [])
     × (piecesOf (1 ∷ 0 ∷ 2 ∷ 7 ∷ 229 ∷ 6 ∷ []) ≡ whole 0 two ∷ cut 5 ∷ [])
@@ -55,12 +55,13 @@ pub counted :
     × (further (far 6 3 7 9) 6 ≡ far 6 3 7 10)
 counted = (refl, refl, refl, refl, refl, refl)
 
--- a field at offset 8 after a last tag, with a value of so many bytes; and with the numbers of what is there
-abbrev judgedAfter : ℕ → ℕ → ℕ → Outcome (Unit {0})
-judgedAfter last tag long = judged (orderRules mostResults (far last 1 1 1) (field tag (replicate long 0)) 8) tt
-
+-- a field at offset 8 of a file that is read so far, with a value of so many bytes
 abbrev judgedWith : Far → ℕ → ℕ → Outcome (Unit {0})
 judgedWith so tag long = judged (orderRules mostResults so (field tag (replicate long 0)) 8) tt
+
+-- after a last tag, with one subject, one student and one result
+abbrev judgedAfter : ℕ → ℕ → ℕ → Outcome (Unit {0})
+judgedAfter last = judgedWith (far last 1 1 1)
 
 abbrev good : Outcome (Unit {0})
 good = accepted tt
@@ -81,19 +82,22 @@ pub ordered :
     × (judgedAfter 3 2 5 ≡ one)
     × (judgedAfter 0 3 5 ≡ one)
     × (judgedAfter 1 3 5 ≡ good)
+    × (judgedAfter 2 3 5 ≡ good)
     × (judgedAfter 3 3 5 ≡ good)
     × (judgedAfter 4 3 5 ≡ one)
     × (judgedAfter 0 4 40 ≡ one)
     × (judgedAfter 1 4 40 ≡ good)
+    × (judgedAfter 2 4 40 ≡ good)
     × (judgedAfter 3 4 40 ≡ good)
     × (judgedAfter 4 4 40 ≡ one)
     × (judgedAfter 3 5 4 ≡ one)
     × (judgedAfter 4 5 4 ≡ good)
+    × (judgedAfter 5 5 4 ≡ good)
     × (judgedAfter 6 5 4 ≡ good)
     × (judgedAfter 4 6 6 ≡ one)
     × (judgedAfter 5 6 6 ≡ good)
     × (judgedAfter 6 6 6 ≡ good)
-ordered = (refl, refl, refl, refl, refl, refl, refl, refl, refl, refl, refl, refl, refl, refl, refl, refl, refl, refl, refl, refl)
+ordered = (refl, refl, refl, refl, refl, refl, refl, refl, refl, refl, refl, refl, refl, refl, refl, refl, refl, refl, refl, refl, refl, refl, refl)
 
 -- 1: unknown tags, and lengths one off
 pub known :

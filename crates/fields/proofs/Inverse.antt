@@ -8,7 +8,7 @@ use lib.ListN.{length, take, drop, length-drop, length-append, drop-of-length-le
 use lib.Seq.{drop-cons, drop-drop, length-take-le, getD-append-add, drop-append-add, take-append-seam}
 use Rattle.paper.specs.Bytes.{byte, word, wordBytes}
 use Rattle.paper.proofs.Written.{length-word, word-read}
-use Rattle.fields.specs.Fields.{Field, fieldBytes, fileOf, Piece, whole, valueAt, fieldAt, past, pieces, piecesOf, fieldsIn, Uncut, placed}
+use Rattle.fields.specs.Fields.{Field, fieldBytes, fileOf, Piece, whole, valueAt, fieldAt, past, pieces, piecesOf, fieldsIn, Uncut, besideOffsets}
 use Rattle.fields.proofs.Pieces.{pieces-cut, pieces-whole, pieces-end}
 
 module _ (file : List ℕ) (bytes : (i : ℕ) → byte file i < 256) where
@@ -85,7 +85,7 @@ module _ (before : List ℕ) (f : Field) (rest : List ℕ) where
   inside = let l = length-append before (fieldBytes f ++ rest) in let m = length-append (fieldBytes f) rest in (omega (arith, l), omega (arith, l, m, past-there))
 
 -- fields after some bytes
-after-bytes : (before : List ℕ) (fs : List Field) (n : ℕ) → length (fileOf fs) ≤ n → pieces n (before ++ fileOf fs) (length before) ≡ placed (length before) fs
+after-bytes : (before : List ℕ) (fs : List Field) (n : ℕ) → length (fileOf fs) ≤ n → pieces n (before ++ fileOf fs) (length before) ≡ besideOffsets (length before) fs
 unfolding fileOf
 after-bytes before [] n h = let l = length-append before [] in pieces-end n (before ++ []) (length before) (omega (arith, l))
 after-bytes before (f ∷ fs) zero h = absurd (omega arith)
@@ -101,22 +101,22 @@ after-bytes before (f ∷ fs) (suc n) h =
     ∙ ap (λ (g : Field). whole at g ∷ pieces n file (past file at)) (field-there before f (fileOf fs))
     ∙ ap (λ (k : ℕ). whole at f ∷ pieces n file k) on
     ∙ ap (λ (z : List ℕ). whole at f ∷ pieces n z (length next)) same
-    ∙ ap (λ (ps : List Piece). whole at f ∷ ps) (after-bytes next fs n few ∙ ap (λ (k : ℕ). placed k fs) (length-append before (fieldBytes f)))
+    ∙ ap (λ (ps : List Piece). whole at f ∷ ps) (after-bytes next fs n few ∙ ap (λ (k : ℕ). besideOffsets k fs) (length-append before (fieldBytes f)))
 
-pub fields-inverse : (fs : List Field) → piecesOf (fileOf fs) ≡ placed 0 fs
+pub fields-inverse : (fs : List Field) → piecesOf (fileOf fs) ≡ besideOffsets 0 fs
 fields-inverse fs = after-bytes [] fs (length (fileOf fs)) (omega arith)
 
 -- none of them is cut, and they are these
-uncut-placed : (p : ℕ) (fs : List Field) → Uncut (placed p fs)
-uncut-placed p [] = tt
-uncut-placed p (f ∷ fs) = uncut-placed (p + length (fieldBytes f)) fs
+uncut-beside : (p : ℕ) (fs : List Field) → Uncut (besideOffsets p fs)
+uncut-beside p [] = tt
+uncut-beside p (f ∷ fs) = uncut-beside (p + length (fieldBytes f)) fs
 
-fields-placed : (p : ℕ) (fs : List Field) → fieldsIn (placed p fs) ≡ fs
-fields-placed p [] = refl
-fields-placed p (f ∷ fs) = ap (λ (gs : List Field). f ∷ gs) (fields-placed (p + length (fieldBytes f)) fs)
+fields-beside : (p : ℕ) (fs : List Field) → fieldsIn (besideOffsets p fs) ≡ fs
+fields-beside p [] = refl
+fields-beside p (f ∷ fs) = ap (λ (gs : List Field). f ∷ gs) (fields-beside (p + length (fieldBytes f)) fs)
 
 pub fields-uncut : (fs : List Field) → Uncut (piecesOf (fileOf fs))
-fields-uncut fs = subst Uncut (sym (fields-inverse fs)) (uncut-placed 0 fs)
+fields-uncut fs = subst Uncut (sym (fields-inverse fs)) (uncut-beside 0 fs)
 
 pub fields-same : (fs : List Field) → fieldsIn (piecesOf (fileOf fs)) ≡ fs
-fields-same fs = ap fieldsIn (fields-inverse fs) ∙ fields-placed 0 fs
+fields-same fs = ap fieldsIn (fields-inverse fs) ∙ fields-beside 0 fs

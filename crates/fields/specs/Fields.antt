@@ -46,20 +46,22 @@ pieces (suc n) file p = if length file ≤? p then [] else if length file <? pas
 abbrev pub piecesOf : List ℕ → List Piece
 piecesOf file = pieces (length file) file 0
 
--- the fields that are whole; no field is cut short; fields from offset p on, each beside its own
+-- the fields that are whole
 abbrev pub fieldsIn : List Piece → List Field
 fieldsIn [] = []
 fieldsIn (whole p f ∷ ps) = f ∷ fieldsIn ps
 fieldsIn (cut p ∷ ps) = fieldsIn ps
 
+-- no field is cut short
 abbrev pub Uncut : List Piece → Type 0
 Uncut [] = Unit {0}
 Uncut (whole p f ∷ ps) = Uncut ps
 Uncut (cut p ∷ ps) = ⊥
 
-abbrev pub placed : ℕ → List Field → List Piece
-placed p [] = []
-placed p (f ∷ fs) = whole p f ∷ placed (p + length (fieldBytes f)) fs
+-- fields from offset p on, each beside its own
+abbrev pub besideOffsets : ℕ → List Field → List Piece
+besideOffsets p [] = []
+besideOffsets p (f ∷ fs) = whole p f ∷ besideOffsets (p + length (fieldBytes f)) fs
 
 -- the bytes of a year, of a score (subject, slot, score), of a student's id
 abbrev pub yearBytes : ℕ

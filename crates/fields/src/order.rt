@@ -71,7 +71,7 @@ const FIGURES_BYTES: usize = FIGURE_COUNT * FIGURE_BYTES;
 
 const ID_BYTES: usize = 4;
 
-// The bytes of a tag's value.
+// The bytes of a tag's value. A match is total: another tag than 1 to 6 has 0, and is refused for itself.
 fn length_of(tag: u8) -> usize
     ensures { λ r. ⌜ r ≡ lengthOf tag ⌝ }
 {
@@ -86,7 +86,7 @@ fn length_of(tag: u8) -> usize
     }
 }
 
-// Whether the tag is in order.
+// Whether the tag is in order. A match is total: another tag than 1 to 6 follows none, and is refused for itself.
 fn follows(last: u8, tag: u8) -> bool
     ensures { λ r. ⌜ r ≡ follows last tag ⌝ }
 {

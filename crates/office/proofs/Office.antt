@@ -68,7 +68,7 @@ abbrev after0 : List Piece
 after0 = general 1 861 ++ after1
 
 pieces-are : piecesOf office ≡ start ++ (general 0 61 ++ after0)
-unfolding row word ahead scores
+unfolding row word wordBytes ahead scores
 pieces-are = as-ahead office (length office) 0 ∙ refl
 
 -- fields, and those after them
@@ -92,7 +92,7 @@ top : (slot : ℕ) → slot ≤ slotCount → 100 * slot ≤ topScore
 top slot h = omega arith
 
 started : readAll start (accepted opened) ≡ so 2 (blanks 7)
-unfolding ahead word outside newRow blank
+unfolding ahead word wordBytes outside newRow blank
 started = refl
 
 -- a General row is read after the rows before it
@@ -133,7 +133,7 @@ abbrev at-end : Reader
 at-end = record { far = record { last = 6; subjects = 7; students = 4; latest = 5 }; held = held }
 
 closed : readAll after6 (so 3 table) ≡ accepted at-end
-unfolding ahead word long listed sum first nearest S E holdsId
+unfolding ahead word wordBytes long listed sum first nearest S E holdsId
 closed = refl
 
 all-read : readAll (start ++ (general 0 61 ++ after0)) (accepted opened) ≡ accepted at-end
@@ -150,7 +150,7 @@ all-read =
 
 -- the file is read
 pub read : reading office ≡ accepted held
-unfolding reading body row
+unfolding reading body row wordBytes
 read = ap (λ (ps : List Piece). ended (length office) (readAll ps (accepted opened))) pieces-are ∙ ap (ended (length office)) all-read
 
 -- what it holds is listed

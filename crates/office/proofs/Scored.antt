@@ -15,7 +15,7 @@ use Rattle.paper.specs.Parts.{laid}
 use Rattle.paper.specs.Rulings.{accepted}
 use Rattle.paper.proofs.Booleans.{true-both}
 use Rattle.paper.proofs.Ranging.{true-within}
-use Rattle.paper.proofs.Ruled.{kept-all}
+use Rattle.paper.proofs.Ruled.{unbroken-all}
 use Rattle.catalogue.specs.Catalogue.{subjects}
 use Rattle.scores.specs.Scores.{rows, hasSlot, slotAt, valued, absent, found}
 use Rattle.scores.specs.Rows.{stored}
@@ -90,7 +90,7 @@ module _ (year : ℕ) (catalogue : List ℕ) where
 
     one : (last p : ℕ) → within 1 3 last ≡ true → after (accepted (at last table)) (whole p (score subject slot v)) ≡ accepted (at 3 (before ++ (v / 256 ∷ v % 256 ∷ rest)))
     one last p l =
-        kept-all (fieldRules (at last table) (score subject slot v) p) (passed (at last table) (score subject slot v)) (
+        unbroken-all (fieldRules (at last table) (score subject slot v) p) (passed (at last table) (score subject slot v)) (
           refl,
           (
             refl,

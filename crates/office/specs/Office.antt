@@ -1,16 +1,16 @@
 -- The office's example file, and its listing.
 use Prim.Native.Nat.{ℕ, zero, suc, _*_, _/_, _%_}
 use mathlib.Core.List.{List, [], _∷_, _++_}
-use lib.ListN.{length}
 use Rattle.paper.specs.Letters.{letterA, letterB}
 use Rattle.results.specs.Results.{Student}
 use Rattle.bestset.specs.Examples.{catalogue, table, seven, eight, nine, eleven}
 use Rattle.curve.specs.Examples.{aged17}
+use Rattle.fields.specs.Fields.{fieldBytes}
 use Rattle.cohort.specs.Held.{Enrolled, Held}
 
--- a field of a tag
+-- the bytes of a field, before the rest
 abbrev pub field : ℕ → List ℕ → List ℕ → List ℕ
-field tag value rest = tag ∷ length value / 256 ∷ length value % 256 ∷ (value ++ rest)
+field tag value rest = fieldBytes (record { tag = tag; value = value }) ++ rest
 
 -- a catalogue subject, of level 0; a score; a student; a result of 2021
 abbrev pub subject : ℕ → ℕ → ℕ → List ℕ → List ℕ

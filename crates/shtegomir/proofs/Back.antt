@@ -1,12 +1,12 @@
 -- What C gets tells the outcome back: two outcomes of the paper's table with one struct are equal. And how C reads it.
-use Prim.Native.Nat.{ℕ, _≤_}
+use Prim.Native.Nat.{ℕ}
 use native.Mathlib.Omega.{arith}
 use mathlib.Core.Path.{_≡_, refl, ap}
 use Rattle.paper.specs.Rulings.{Fault, _at_, Outcome, accepted, refused, valuesOr, numberOf, placeOf}
 use Rattle.paper.proofs.Ruled.{Refusing, some-number}
 use Rattle.bestset.specs.Promise.{Values as BestValues}
 use Rattle.curve.specs.Promise.{Values as CurveValues}
-use Rattle.shtegomir.specs.Telling.{told}
+use Rattle.shtegomir.specs.Telling.{told, Reads}
 use Rattle.shtegomir.specs.Best.{flatBest, noValues as noBest}
 use Rattle.shtegomir.specs.Participation.{flatCurve, noValues as noCurve}
 use Rattle.shtegomir.specs.Placing.{flatPlaced}
@@ -26,26 +26,12 @@ told-back none (accepted u) (refused f) g h e d = absurd (omega (arith, some-num
 told-back none (refused f) (accepted v) g h e d = absurd (omega (arith, some-number f g, ap (λ (t : Told). t .refusal) e))
 told-back none (refused f) (refused k) g h e d = ap refused (same-fault f k (ap (λ (t : Told). t .refusal) e) (ap (λ (t : Told). t .place) e))
 
--- how C reads what it is told and the values. Accepted: refusal and place are 0, and the values are given
-pub record Given {A : Type 0} (v : A) (t : Told) (values : A) : Type 0 where
-  pub refusal : t .refusal ≡ 0
-  pub place : t .place ≡ 0
-  pub given : values ≡ v
-
--- refused: the refusal is not 0, and every value is 0
-pub record Denied {A : Type 0} (none : A) (t : Told) (values : A) : Type 0 where
-  pub refusal : 1 ≤ t .refusal
-  pub nothing : values ≡ none
-
-abbrev pub Reads : {A : Type 0} → A → Outcome A → Told → A → Type 0
-Reads none (accepted v) t values = Given v t values
-Reads none (refused f) t values = Denied none t values
-
+-- and C reads it so
 reads : {A : Type 0} (none : A) (o : Outcome A) → Refusing o → Reads none o (told o) (valuesOr none o)
-reads none (accepted v) g = record { refusal = refl; place = refl; given = refl }
-reads none (refused f) g = record { refusal = some-number f g; nothing = refl }
+reads none (accepted v) g = record { tells = refl; given = refl }
+reads none (refused f) g = record { tells = refl; some = some-number f g; nothing = refl }
 
--- for each struct: the outcome is told back, and it reads as above
+-- for each struct: the outcome is told back, and C reads it
 abbrev bestValues : Best → BestValues
 bestValues s = record { aggregate = s .aggregate; set = s .set }
 

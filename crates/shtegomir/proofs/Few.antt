@@ -7,7 +7,7 @@ use lib.ListN.{length}
 use borrow.Author.Tests.{ltb-false}
 use Rattle.paper.specs.Limits.{mostStudents, mostTallied}
 use Rattle.paper.specs.Rulings.{Outcome, accepted, refused, valuesOr, Rule, judged}
-use Rattle.paper.proofs.Ruled.{all-kept, given-values}
+use Rattle.paper.proofs.Ruled.{all-unbroken, given-values}
 use Rattle.bands.specs.Placing.{remainder}
 use Rattle.bands.specs.Promise.{said, sizeRules, countsRule, tableRules, aggregateRules, Promise, Lent, TallyPromise}
 use Rattle.bands.specs.declared.Answer.{Answer}
@@ -23,12 +23,12 @@ few limit aggregates table Y bands more (accepted n) e =
       arith,
       given-values rules (remainder aggregates table Y) n (sym e),
       remainder-within aggregates table Y,
-      ltb-false limit (length aggregates) (all-kept rules (remainder aggregates table Y) n (sym e) .0),
+      ltb-false limit (length aggregates) (all-unbroken rules (remainder aggregates table Y) n (sym e) .0),
     )
 
 -- so of every answer that the promises permit
 pub direct-few : (aggregates table : List ℕ) (Y : ℕ) (before : List ℕ) {r : Answer} {after : List ℕ} → Promise aggregates table Y before r after → valuesOr 0 (said r) ≤ mostStudents
-direct-few aggregates table Y before {r = r} p = few mostStudents aggregates table Y (length before) (tableRules Y table ++ aggregateRules aggregates) (said r) (p .says)
+direct-few aggregates table Y before {r = r} p = few mostStudents aggregates table Y (length before) (tableRules table Y ++ aggregateRules aggregates) (said r) (p .says)
 
 pub tally-few : (aggregates table : List ℕ) (Y : ℕ) (before : Lent) {r : Answer} {after : Lent} → TallyPromise aggregates table Y before r after → valuesOr 0 (said r) ≤ mostTallied
-tally-few aggregates table Y before {r = r} p = few mostTallied aggregates table Y (length (before .bands)) (countsRule (length (before .counts)) ∷ tableRules Y table ++ aggregateRules aggregates) (said r) (p .says)
+tally-few aggregates table Y before {r = r} p = few mostTallied aggregates table Y (length (before .bands)) (countsRule (length (before .counts)) ∷ tableRules table Y ++ aggregateRules aggregates) (said r) (p .says)

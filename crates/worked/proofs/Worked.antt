@@ -11,7 +11,7 @@ use Rattle.paper.specs.Lists.{sum, count, first, sumOf, listed}
 use Rattle.paper.specs.Bytes.{word}
 use Rattle.paper.specs.Rounding.{nearest}
 use Rattle.paper.specs.Rulings.{Outcome, accepted, inTurn}
-use Rattle.paper.proofs.Ruled.{Unbroken, kept-all}
+use Rattle.paper.proofs.Ruled.{Unbroken, unbroken-all}
 use Rattle.paper.proofs.Promised.{rules-is, only-as, left-as}
 use Rattle.catalogue.specs.Catalogue.{outside}
 use Rattle.scores.specs.Scores.{found, slotOf}
@@ -62,11 +62,11 @@ taken xs table Y bands counts l m k =
 placed : (xs table : List ℕ) (Y : ℕ) (atars : List ℕ) (n : ℕ) (r : BandsAnswer) (bands : List ℕ) → Computes (aggregates xs by table of Y get atars leaving n)
     → Placed xs table Y r bands → (saidBands r ≡ accepted n) × (map atarOf bands ≡ atars)
 placed xs table Y atars n r bands c (directly before l h) =
-    let e = kept-all (directRules xs table Y (length before)) (remainder xs table Y) (rw l (c .0)) in
+    let e = unbroken-all (directRules xs table Y (length before)) (remainder xs table Y) (rw l (c .0)) in
     let o = only-as tells rules-is (owes xs table Y before) (e ∙ ap accepted (c .1)) h in
     (ap saidBands (o .0), ap (map atarOf) (o .1) ∙ c .2)
 placed xs table Y atars n r bands c (byTally before counts m l h) =
-    let e = kept-all (tallyRules xs table Y (length (before .bands)) (length (before .counts))) (remainder xs table Y) (taken xs table Y _ _ l m (c .0)) in
+    let e = unbroken-all (tallyRules xs table Y (length (before .bands)) (length (before .counts))) (remainder xs table Y) (taken xs table Y _ _ l m (c .0)) in
     let o = only-as tells rules-is (tally-owes xs table Y before) (e ∙ ap accepted (c .1)) h in
     (ap saidBands (o .0), ap (λ (b : Lent). map atarOf (b .bands)) (o .1) ∙ c .2)
 

@@ -4,7 +4,7 @@ use Rattle.bestset.proofs.Judging.{catalogue-refused, input-refused, re
 use Rattle.bestset.specs.Rules.{inputRules}
 use Rattle.results.specs.Results.{Student, student}
 use Rattle.catalogue.specs.Catalogue.{subjects, catalogueRules}
-use Rattle.paper.proofs.Ruled.{Unbroken, all-kept}
+use Rattle.paper.proofs.Ruled.{Unbroken, all-unbroken}
 use Rattle.paper.specs.Screening.{ruled}
 use Rattle.paper.specs.Limits.{mostSubjects}
 use borrow.Author.Tests.{ltb-false}
@@ -35,7 +35,7 @@ module _ (s : tie.Start) where
   table = s .args .table .now
 
 kept : (c : tie.After-enum-told) → Unbroken (catalogueRules (start (screened c) .args .catalogue .now))
-kept c = all-kept (catalogueRules (start (screened c) .args .catalogue .now)) tt tt (sym (screened c .screen .ensures .says) ∙ ap ruled (c .enum-told .given .1))
+kept c = all-unbroken (catalogueRules (start (screened c) .args .catalogue .now)) tt tt (sym (screened c .screen .ensures .says) ∙ ap ruled (c .enum-told .given .1))
 
 screen-requires : tie.Need-screen-requires
 screen-requires c κs = search needs
@@ -74,7 +74,7 @@ returns-3 : tie.Need-returns-3
 returns-3 c =
     let d = c .before .before .before in
     let s = begun d in
-    let l = all-kept (inputRules (who s) (table s)) tt tt (sym (d .judge-input .ensures) ∙ ap ruled (c .before .enum-told2 .given .1)) in
+    let l = all-unbroken (inputRules (who s) (table s)) tt tt (sym (d .judge-input .ensures) ∙ ap ruled (c .before .enum-told2 .given .1)) in
     c .judge-results .ensures ∙ sym (results-left (who s) (table s) (kept (d .before)) l)
 
 pub judge-spec : {M : Type 1} → statement M

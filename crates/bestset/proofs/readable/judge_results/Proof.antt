@@ -1,7 +1,7 @@
 use mathlib.Core.List.{List}
 use Rattle.bestset.specs.Rules.{resultRules, turnRules}
 use Rattle.results.specs.Results.{Student, student, held, heldIn}
-use Rattle.paper.proofs.Ruled.{Unbroken, all-kept, kept-all, turns-kept, turn-refused}
+use Rattle.paper.proofs.Ruled.{Unbroken, all-unbroken, unbroken-all, turns-unbroken, turn-refused}
 use Rattle.paper.specs.Screening.{ruled}
 use Rattle.paper.specs.Rulings.{Rule, judged}
 use borrow.Author.Count.{below-more}
@@ -69,13 +69,13 @@ loop-again : tie.Need-loop-again Inv-loop μ-loop
 loop-again c =
     let d = c .before .before in
     let l = turn d .loop in
-    (omega arith, below-more _ _ (l .inv .1) (all-kept (rules (turn d) (l .i)) tt tt (sym (judged-here d) ∙ ap ruled (c .enum-told .given .1))))
+    (omega arith, below-more _ _ (l .inv .1) (all-unbroken (rules (turn d) (l .i)) tt tt (sym (judged-here d) ∙ ap ruled (c .enum-told .given .1))))
 
 returns-2 : tie.Need-returns-2 Inv-loop μ-loop
 returns-2 c =
     let d = c .before in
     let s = who d in
-    sym (kept-all (turnRules s (start d .args .table .now)) tt (turns-kept (held s) (rules d) (λ j l. d .loop .inv .1 j (omega arith))))
+    sym (unbroken-all (turnRules s (start d .args .table .now)) tt (turns-unbroken (held s) (rules d) (λ j l. d .loop .inv .1 j (omega arith))))
 
 pub judge-results-spec : {M : Type 1} → statement M
 judge-results-spec =

@@ -1,7 +1,7 @@
 use borrow.Author.Tests.{lt-ltb, le-ltb, eq-eqb, ne-eqb}
 use mathlib.Core.Path.{refl}
-use Rattle.bands.proofs.screening.sizes.Statement.{statement}
-use Rattle.bands.proofs.screening.sizes.Tie as tie
+use Rattle.bands.proofs.screening.judge_sizes.Statement.{statement}
+use Rattle.bands.proofs.screening.judge_sizes.Tie as tie
 
 returns : tie.Need-returns
 returns c = simp (lt-ltb _ _ (c .if1 .taken)) refl
@@ -15,5 +15,5 @@ returns-3 c = simp (le-ltb _ _ (c .before .before .if1 .left), eq-eqb _ _ (c .be
 returns-4 : tie.Need-returns-4
 returns-4 c = simp (le-ltb _ _ (c .before .before .if1 .left), eq-eqb _ _ (c .before .if2 .left), eq-eqb _ _ (c .if3 .left)) refl
 
-pub sizes-spec : {M : Type 1} → statement M
-sizes-spec = tie.close (tie.spec returns returns-2 returns-3 returns-4)
+pub judge-sizes-spec : {M : Type 1} → statement M
+judge-sizes-spec = tie.close (tie.spec returns returns-2 returns-3 returns-4)
