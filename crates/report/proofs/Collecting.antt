@@ -1,4 +1,4 @@
--- What a student adds to what is kept: to the aggregates, the numbers and the places.
+-- What a student adds to what is noted: to the aggregates, the numbers and the places.
 use Prim.Native.Nat.{ℕ, suc, _+_, _-_, _*_, _≤_, _<_}
 use native.Mathlib.Omega.{arith}
 use mathlib.Core.Path.{_≡_, refl, sym, ap, _∙_}
@@ -10,7 +10,7 @@ use Rattle.paper.specs.Rulings.{Outcome, accepted, refused, numberIn, placeIn}
 use Rattle.bestset.specs.Promise.{Values}
 use Rattle.cohort.specs.Held.{Enrolled}
 use Rattle.report.specs.Report.{outcome, withAggregate, aggregatesOf, afterOne}
-use Rattle.report.specs.Inner.{studentsIn, outcomeAt, numbersOf, placesOf, Kept, joined}
+use Rattle.report.specs.Inner.{studentsIn, outcomeAt, numbersOf, placesOf, Noted, joined}
 use Rattle.report.proofs.Standing.{from, studentAt, next, none}
 
 -- a list to which the outcome of each student adds
@@ -103,7 +103,7 @@ module _ {catalogue table : List ℕ} {year n : ℕ} {counts results : List ℕ}
   abbrev outcomes : Enrolled → Outcome Values
   outcomes = outcome catalogue table year
 
-  pub gathered-all : i ≡ n → length numbers ≡ n → length places ≡ n → (ids : List ℕ) → Kept outcomes (studentsIn n ids counts results) (take m buffer) numbers places
+  pub gathered-all : i ≡ n → length numbers ≡ n → length places ≡ n → (ids : List ℕ) → Noted outcomes (studentsIn n ids counts results) (take m buffer) numbers places
   gathered-all h p q ids =
       let whole : (xs : List ℕ) → length xs ≡ n → xs ≡ take i xs = λ xs l. sym (ap (λ (k : ℕ). take k xs) (h ∙ sym l) ∙ take-length xs) in
       record {

@@ -6,7 +6,7 @@ pub mod Collecting
 pub mod Demands
 pub mod Few
 pub mod Filed
-pub mod Keeping
+pub mod Noting
 pub mod Lengths
 pub mod Lining
 pub mod Promised

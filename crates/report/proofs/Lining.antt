@@ -11,18 +11,18 @@ use lib.Dec.{eqb}
 use borrow.Author.Tests.{eq-eqb, ne-eqb}
 use Rattle.paper.specs.Lists.{pick}
 use Rattle.report.specs.Report.{Columns}
-use Rattle.report.specs.Inner.{lineKept, afterKept, linesKept, eligibleKept}
+use Rattle.report.specs.Inner.{lineNoted, afterNoted, linesNoted, eligibleNoted}
 use Rattle.report.proofs.Standing.{at}
 
 -- no fewer are eligible with more students, and with one more at most one more
-after-least : (j number : ℕ) → j ≤ afterKept j number
+after-least : (j number : ℕ) → j ≤ afterNoted j number
 after-least j number = go (eqb number 0)
   where
     go : (b : Bool) → j ≤ pick b (suc j) j
     go true = omega arith
     go false = omega arith
 
-pub after-most : (j number : ℕ) → afterKept j number ≤ j + 1
+pub after-most : (j number : ℕ) → afterNoted j number ≤ j + 1
 after-most j number = go (eqb number 0)
   where
     go : (b : Bool) → pick b (suc j) j ≤ j + 1
@@ -30,26 +30,26 @@ after-most j number = go (eqb number 0)
     go false = omega arith
 
 -- an eligible student is one more, a refused one is none
-pub one-more : (j number k : ℕ) → number ≡ 0 → k ≡ j + 1 → k ≡ afterKept j number
+pub one-more : (j number k : ℕ) → number ≡ 0 → k ≡ j + 1 → k ≡ afterNoted j number
 one-more j number k e h = h ∙ add-one j ∙ sym (ap (λ (b : Bool). pick b (suc j) j) (eq-eqb number 0 e))
 
-pub none-more : (j number k : ℕ) → (number ≡ 0 → ⊥) → k ≡ j → k ≡ afterKept j number
+pub none-more : (j number k : ℕ) → (number ≡ 0 → ⊥) → k ≡ j → k ≡ afterNoted j number
 none-more j number k e h = h ∙ sym (ap (λ (b : Bool). pick b (suc j) j) (ne-eqb number 0 e))
 
-pub eligible-least : (j : ℕ) (numbers : List ℕ) → j ≤ eligibleKept j numbers
-unfolding eligibleKept
+pub eligible-least : (j : ℕ) (numbers : List ℕ) → j ≤ eligibleNoted j numbers
+unfolding eligibleNoted
 eligible-least j [] = omega arith
-eligible-least j (number ∷ numbers) = omega (arith, after-least j number, eligible-least (afterKept j number) numbers)
+eligible-least j (number ∷ numbers) = omega (arith, after-least j number, eligible-least (afterNoted j number) numbers)
 
 module _ (c : Columns) (ids numbers places : List ℕ) where
   -- the lines and the eligible from the i-th student on
   abbrev lines-from : ℕ → ℕ → List ℕ
-  lines-from i j = linesKept c j (drop i ids) (drop i numbers) (drop i places)
+  lines-from i j = linesNoted c j (drop i ids) (drop i numbers) (drop i places)
 
   -- all lines are those so far and those of the rest, all eligible are those so far, j in number, and those of the rest
   pub record Far (i j : ℕ) (sofar : List ℕ) : Type 0 where
-    lines : linesKept c 0 ids numbers places ≡ sofar ++ lines-from i j
-    eligible : eligibleKept 0 numbers ≡ eligibleKept j (drop i numbers)
+    lines : linesNoted c 0 ids numbers places ≡ sofar ++ lines-from i j
+    eligible : eligibleNoted 0 numbers ≡ eligibleNoted j (drop i numbers)
 
   pub far-none : Far 0 0 []
   far-none = record { lines = refl; eligible = refl }
@@ -57,36 +57,30 @@ module _ (c : Columns) (ids numbers places : List ℕ) where
   numbers-next : (i : ℕ) → i < length numbers → drop i numbers ≡ getD numbers i 0 ∷ drop (i + 1) numbers
   numbers-next i l = drop-cons numbers i 0 l ∙ ap (λ (k : ℕ). getD numbers i 0 ∷ drop k numbers) (sym (add-one i))
 
-  lines-next : (i j : ℕ) → i < length numbers → lines-from i j ≡ lineKept c j (getD ids i 0) (getD numbers i 0) (getD places i 0) ++ lines-from (i + 1) (afterKept j (getD numbers i 0))
-  unfolding linesKept
+  lines-next : (i j : ℕ) → i < length numbers → lines-from i j ≡ lineNoted c j (getD ids i 0) (getD numbers i 0) (getD places i 0) ++ lines-from (i + 1) (afterNoted j (getD numbers i 0))
+  unfolding linesNoted
   lines-next i j l =
-      ap (λ (ns : List ℕ). linesKept c j (drop i ids) ns (drop i places)) (numbers-next i l)
+      ap (λ (ns : List ℕ). linesNoted c j (drop i ids) ns (drop i places)) (numbers-next i l)
       ∙ rw (at i ids, at i places, drop-drop 1 i ids, drop-drop 1 i places) refl
 
-  eligible-next : (i j : ℕ) → i < length numbers → eligibleKept j (drop i numbers) ≡ eligibleKept (afterKept j (getD numbers i 0)) (drop (i + 1) numbers)
-  unfolding eligibleKept
-  eligible-next i j l = ap (eligibleKept j) (numbers-next i l)
+  eligible-next : (i j : ℕ) → i < length numbers → eligibleNoted j (drop i numbers) ≡ eligibleNoted (afterNoted j (getD numbers i 0)) (drop (i + 1) numbers)
+  unfolding eligibleNoted
+  eligible-next i j l = ap (eligibleNoted j) (numbers-next i l)
 
 -- what follows of those listed so far
 module _ {c : Columns} {ids numbers places : List ℕ} {i j : ℕ} {sofar : List ℕ} (f : Far c ids numbers places i j sofar) where
-  pub far-all : length numbers ≤ i → linesKept c 0 ids numbers places ≡ sofar
-  unfolding linesKept
-  far-all h = f .lines ∙ ap (λ (ns : List ℕ). sofar ++ linesKept c j (drop i ids) ns (drop i places)) (drop-of-length-le numbers h) ∙ append-nil sofar
+  pub far-all : length numbers ≤ i → linesNoted c 0 ids numbers places ≡ sofar
+  unfolding linesNoted
+  far-all h = f .lines ∙ ap (λ (ns : List ℕ). sofar ++ linesNoted c j (drop i ids) ns (drop i places)) (drop-of-length-le numbers h) ∙ append-nil sofar
 
-  -- an eligible student is one of the eligible
-  pub far-within : i < length numbers → getD numbers i 0 ≡ 0 → j < eligibleKept 0 numbers
-  far-within l e =
-      let one : afterKept j (getD numbers i 0) ≡ suc j = ap (λ (b : Bool). pick b (suc j) j) (eq-eqb (getD numbers i 0) 0 e) in
-      omega (arith, f .eligible ∙ eligible-next c ids numbers places i j l, eligible-least (afterKept j (getD numbers i 0)) (drop (i + 1) numbers))
-
-  pub far-more : (line : List ℕ) (k : ℕ) → i < length numbers → line ≡ lineKept c j (getD ids i 0) (getD numbers i 0) (getD places i 0) → k ≡ afterKept j (getD numbers i 0)
+  pub far-more : (line : List ℕ) (k : ℕ) → i < length numbers → line ≡ lineNoted c j (getD ids i 0) (getD numbers i 0) (getD places i 0) → k ≡ afterNoted j (getD numbers i 0)
       → Far c ids numbers places (i + 1) k (sofar ++ line)
   far-more line k l x u =
       record {
         lines =
             f .lines
             ∙ ap (λ (t : List ℕ). sofar ++ t) (lines-next c ids numbers places i j l ∙ sym (ap (λ (t : List ℕ). t ++ lines-from c ids numbers places (i + 1) k) x
-            ∙ ap (λ (k : ℕ). lineKept c j (getD ids i 0) (getD numbers i 0) (getD places i 0) ++ lines-from c ids numbers places (i + 1) k) u))
+            ∙ ap (λ (k : ℕ). lineNoted c j (getD ids i 0) (getD numbers i 0) (getD places i 0) ++ lines-from c ids numbers places (i + 1) k) u))
             ∙ sym (append-assoc sofar line (lines-from c ids numbers places (i + 1) k));
-        eligible = f .eligible ∙ eligible-next c ids numbers places i j l ∙ sym (ap (λ (k : ℕ). eligibleKept k (drop (i + 1) numbers)) u);
+        eligible = f .eligible ∙ eligible-next c ids numbers places i j l ∙ sym (ap (λ (k : ℕ). eligibleNoted k (drop (i + 1) numbers)) u);
       }

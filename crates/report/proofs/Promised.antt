@@ -39,7 +39,7 @@ module _ (file before : List ℕ) where
   determined = every.determined tells every.rules-is every.owes-equal
 
   -- a buffer of its length is accepted, whatever the file
-  room : length before ≡ textBytes → ruling file before ≡ accepted (length (textOf file))
+  pub room : length before ≡ textBytes → ruling file before ≡ accepted (length (textOf file))
   room l = simp (eq-eqb _ _ l)
 
   pub text-put : (after : List ℕ) (n : ℕ) → length before ≡ textBytes → Put before after 0 n (textOf file) → Promise file before (Accepted n) after
@@ -47,7 +47,7 @@ module _ (file before : List ℕ) where
       let z : n ≡ length (textOf file) = omega (arith, p .ends) in
       record { says = ap accepted z ∙ sym (room l); leaves = p .content }
 
-  -- the text always fits: a lent buffer keeps its length, and the text is in it
+  -- with a lent buffer, which keeps its length, the text is in it; of any file, with no buffer: Lengths
   pub fits : {r : Answer} {after : List ℕ} → length before ≡ textBytes → length after ≡ textBytes → Promise file before r after → length (textOf file) ≤ textBytes
   fits {after = after} l m h =
       let e : length after ≡ length (written file before) = ap length (every.left-as (room l) h) in

@@ -35,8 +35,8 @@ numbersOf outcomes students = map (λ (s : Enrolled). numberIn (outcomes s)) stu
 abbrev pub placesOf : (Enrolled → Outcome Values) → List Enrolled → List ℕ
 placesOf outcomes students = map (λ (s : Enrolled). placeIn (outcomes s)) students
 
--- what is kept of the students: the aggregates of the eligible, and of each student the number and the place of the refusal
-pub record Kept (outcomes : Enrolled → Outcome Values) (students : List Enrolled) (aggregates numbers places : List ℕ) : Type 0 where
+-- what is noted of the students: the aggregates of the eligible, and of each student the number and the place of the refusal
+pub record Noted (outcomes : Enrolled → Outcome Values) (students : List Enrolled) (aggregates numbers places : List ℕ) : Type 0 where
   pub aggregates-are : aggregates ≡ aggregatesOf outcomes students
   pub numbers-are : numbers ≡ numbersOf outcomes students
   pub places-are : places ≡ placesOf outcomes students
@@ -48,13 +48,13 @@ pub record Few (counts results : List ℕ) : Type 0 where
   pub bytes : length results ≡ resultsBytes
 
 -- a catalogue of at most 64 subjects, such students, and a buffer for aggregates and one for places
-pub record Keepable (catalogue counts results aggregates places : List ℕ) : Type 0 where
+pub record Collectable (catalogue counts results aggregates places : List ℕ) : Type 0 where
   pub few-subjects : subjects catalogue ≤ mostSubjects
   pub few : Few counts results
   pub aggregates-long : length aggregates ≡ mostStudents
   pub places-long : length places ≡ length counts
 
--- the aggregate of an eligible student, kept as the j-th of a buffer
+-- the aggregate of an eligible student, as the j-th of a buffer
 abbrev pub joined : Outcome Values → List ℕ → ℕ → List ℕ
 joined (accepted v) buffer j = set buffer j (v .aggregate)
 joined (refused f) buffer j = buffer
@@ -65,7 +65,7 @@ pub record Collected (outcomes : Enrolled → Outcome Values) (counts results bu
   pub numbers-long : length numbers ≡ length counts
   pub places-long : length places ≡ length counts
   pub within : m ≤ length counts
-  pub are : (ids : List ℕ) → Kept outcomes (studentsIn (length counts) ids counts results) (take m buffer) numbers places
+  pub are : (ids : List ℕ) → Noted outcomes (studentsIn (length counts) ids counts results) (take m buffer) numbers places
 
 -- a rate and a Y that are accepted
 pub record Populated (rate population : ℕ) : Type 0 where
@@ -98,46 +98,46 @@ pub record Placeable (rate population : ℕ) (c : Columns) : Type 0 where
 abbrev pub lineOr : ℕ → ℕ → ℕ → ℕ → ℕ → ℕ → ℕ → List ℕ
 lineOr id number place aggregate rank percentile band = if number =? 0 then studentLine id aggregate rank percentile band else refusedLine id number place
 
--- the line of the student of whom this is kept, and who is, if eligible, the j-th of the eligible
-abbrev pub lineKept : Columns → ℕ → ℕ → ℕ → ℕ → List ℕ
-lineKept c j id number place = if number =? 0 then eligibleLine c j id else refusedLine id number place
+-- the line of the student of whom this is noted, and who is, if eligible, the j-th of the eligible
+abbrev pub lineNoted : Columns → ℕ → ℕ → ℕ → ℕ → List ℕ
+lineNoted c j id number place = if number =? 0 then eligibleLine c j id else refusedLine id number place
 
 -- how many are eligible with one student more
-abbrev pub afterKept : ℕ → ℕ → ℕ
-afterKept j number = if number =? 0 then suc j else j
+abbrev pub afterNoted : ℕ → ℕ → ℕ
+afterNoted j number = if number =? 0 then suc j else j
 
 -- a line per student, from ids, numbers and places; j students before them are eligible
-unfoldable pub linesKept : Columns → ℕ → List ℕ → List ℕ → List ℕ → List ℕ
-linesKept c j ids [] places = []
-linesKept c j ids (number ∷ numbers) places =
-    lineKept c j (getD ids 0 0) number (getD places 0 0) ++ linesKept c (afterKept j number) (drop 1 ids) numbers (drop 1 places)
+unfoldable pub linesNoted : Columns → ℕ → List ℕ → List ℕ → List ℕ → List ℕ
+linesNoted c j ids [] places = []
+linesNoted c j ids (number ∷ numbers) places =
+    lineNoted c j (getD ids 0 0) number (getD places 0 0) ++ linesNoted c (afterNoted j number) (drop 1 ids) numbers (drop 1 places)
 
 -- how many are eligible with these students more
-unfoldable pub eligibleKept : ℕ → List ℕ → ℕ
-eligibleKept j [] = j
-eligibleKept j (number ∷ numbers) = eligibleKept (afterKept j number) numbers
+unfoldable pub eligibleNoted : ℕ → List ℕ → ℕ
+eligibleNoted j [] = j
+eligibleNoted j (number ∷ numbers) = eligibleNoted (afterNoted j number) numbers
 
--- at most 512 students, of each of whom number and place are kept, and room for their lines
+-- at most 512 students, of each of whom number and place are noted, and room for their lines
 pub record Listable (ids numbers places text : List ℕ) : Type 0 where
   pub few : length ids ≤ mostStudents
   pub numbers-long : length numbers ≡ length ids
   pub places-long : length places ≡ length ids
   pub room : lineBytes * length ids ≤ length text
 
--- what is kept of the students of a cohort, and a text buffer
+-- what is noted of the students of a cohort, and a text buffer
 pub record Ready (rate population : ℕ) (ids numbers places aggregates text : List ℕ) : Type 0 where
   pub cohort : Cohort aggregates rate population
   pub few : length ids ≤ mostStudents
   pub numbers-long : length numbers ≡ length ids
   pub places-long : length places ≡ length ids
-  pub eligible : eligibleKept 0 numbers ≡ length aggregates
+  pub eligible : eligibleNoted 0 numbers ≡ length aggregates
   pub room : length text ≡ textBytes
 
--- the listing, from what is kept
-abbrev pub listedKept : List ℕ → List ℕ → List ℕ → List ℕ → List ℕ → ℕ → List ℕ
-listedKept ids numbers places aggregates table Y =
+-- the listing, from what is noted
+abbrev pub listedNoted : List ℕ → List ℕ → List ℕ → List ℕ → List ℕ → ℕ → List ℕ
+listedNoted ids numbers places aggregates table Y =
     cohortLine (length ids) (length aggregates) (remainder aggregates table Y)
-    ++ linesKept (columnsOf aggregates table Y) 0 ids numbers places
+    ++ linesNoted (columnsOf aggregates table Y) 0 ids numbers places
 
 -- a cohort in buffers, and a text buffer
 pub record Read (rate population : ℕ) (catalogue ids counts results text : List ℕ) : Type 0 where

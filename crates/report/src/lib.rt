@@ -4,7 +4,7 @@ ghost use lib.ListN.{length};
 ghost use Rattle.curve.specs.Curve.{tableOf};
 ghost use Rattle.report.specs.Sizes.{textBytes};
 ghost use Rattle.report.specs.Report.{outcome, listed, textOf};
-ghost use Rattle.report.specs.Inner.{studentsIn, listedKept, Ready, Read, Put};
+ghost use Rattle.report.specs.Inner.{studentsIn, listedNoted, Ready, Read, Put};
 ghost use Rattle.report.specs.Promise.{Promise};
 use cohort::Summary;
 use paper::limits::CATALOGUE_BYTES;
@@ -31,7 +31,7 @@ pub enum Answer {
 pub const TEXT_BYTES: usize = 65536;
 
 // Ranks and places the eligible, and lists the cohort: its line, then a line per student. Answers where the text ends.
-fn list_kept(
+fn list_noted(
     summary: Summary,
     ids: &[u32],
     numbers: &[u8],
@@ -41,7 +41,7 @@ fn list_kept(
 ) -> usize
     requires { ⌜ Ready (summary .rate) (summary .population) (now ids) (now numbers) (now places) (now aggregates) (now text) ⌝ }
     ensures { λ r. ⌜ Put (now (text .entry)) (now (text .exit)) 0 r
-        (listedKept (now (ids .entry)) (now (numbers .entry)) (now (places .entry)) (now (aggregates .entry)) (tableOf (summary .rate)) (summary .population)) ⌝ }
+        (listedNoted (now (ids .entry)) (now (numbers .entry)) (now (places .entry)) (now (aggregates .entry)) (tableOf (summary .rate)) (summary .population)) ⌝ }
 {
     let n = aggregates.len();
     let mut ranks = [0u32; MOST_STUDENTS];
@@ -71,7 +71,7 @@ fn list_kept(
         )
 }
 
-// Lists a cohort that was read: each student's outcome is kept. Answers where the text ends.
+// Lists a cohort that was read: each student's outcome is noted. Answers where the text ends.
 fn list_read(
     summary: Summary,
     catalogue: &[u8],
@@ -100,7 +100,7 @@ fn list_read(
         &mut places[..students],
     );
     let numbers = counts;
-    list_kept(
+    list_noted(
         summary,
         ids,
         numbers,

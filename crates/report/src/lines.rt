@@ -1,9 +1,9 @@
-// The lines of the students, from what is kept of each.
+// The lines of the students, from what is noted of each.
 ghost use mathlib.Core.Path.{_≡_};
 ghost use Prim.Native.Nat.{_*_, _≤_};
 ghost use lib.ListN.{length, getD};
 ghost use Rattle.listing.specs.Lines.{Shows, lineBytes};
-ghost use Rattle.report.specs.Inner.{columns, lineOr, linesKept, Listable, Put};
+ghost use Rattle.report.specs.Inner.{columns, lineOr, linesNoted, Listable, Put};
 use crate::writing;
 use listing::writing::Line;
 use paper::limits::MOST_STUDENTS;
@@ -49,7 +49,7 @@ pub(crate) fn lines(
 ) -> usize
     requires { ⌜ Listable (now ids) (now numbers) (now places) (now text) ⌝ }
     ensures { λ r. ⌜ Put (now (text .entry)) (now (text .exit)) 0 r
-        (linesKept (columns (now (aggregates .entry)) (now (ranks .entry)) (now (percentiles .entry)) (now (bands .entry))) 0 (now (ids .entry)) (now (numbers .entry)) (now (places .entry)))
+        (linesNoted (columns (now (aggregates .entry)) (now (ranks .entry)) (now (percentiles .entry)) (now (bands .entry))) 0 (now (ids .entry)) (now (numbers .entry)) (now (places .entry)))
         × (r ≤ lineBytes * length (now (ids .entry))) ⌝ }
 {
     let mut i = 0;

@@ -6,7 +6,7 @@ ghost use Rattle.paper.specs.Limits.{resultBytes};
 ghost use Rattle.paper.specs.Rulings.{numberIn, placeIn};
 ghost use Rattle.bestset.specs.Promise.{said};
 ghost use Rattle.report.specs.Report.{outcome, afterOne};
-ghost use Rattle.report.specs.Inner.{outcomeAt, joined, Keepable, Collected};
+ghost use Rattle.report.specs.Inner.{outcomeAt, joined, Collectable, Collected};
 use bestset::Answer;
 use paper::limits::RESULT_BYTES;
 use paper::refusal;
@@ -67,7 +67,7 @@ fn join(answer: Answer, j: usize, aggregates: &mut [u32]) -> usize
     }
 }
 
-// Keeps what is told of each student, collects the aggregates of the eligible in file order, and counts these. The number of a student's
+// Notes what is told of each student, collects the aggregates of the eligible in file order, and counts these. The number of a student's
 // results is not needed after it, and gives way to the number of its refusal.
 pub(crate) fn collect(
     catalogue: &[u8],
@@ -78,7 +78,7 @@ pub(crate) fn collect(
     aggregates: &mut [u32],
     places: &mut [u8],
 ) -> usize
-    requires { ⌜ Keepable (now catalogue) (now counts) (now results) (now aggregates) (now places) ⌝ }
+    requires { ⌜ Collectable (now catalogue) (now counts) (now results) (now aggregates) (now places) ⌝ }
     ensures { λ r. ⌜ Collected (outcome (now (catalogue .entry)) (now (table .entry)) year) (now (counts .entry)) (now (results .entry)) (now (aggregates .exit)) (now (counts .exit)) (now (places .exit)) r ⌝ }
 {
     let mut i = 0;

@@ -1,6 +1,6 @@
-use Rattle.report.proofs.Keeping.{eligible-are, listed-told}
+use Rattle.report.proofs.Noting.{eligible-are, listed-told}
 use Rattle.report.proofs.Bounded.{collected-cohort}
-use Rattle.report.specs.Inner.{listedKept, Put}
+use Rattle.report.specs.Inner.{listedNoted, Put}
 use Rattle.curve.specs.Curve.{tableOf}
 use Rattle.paper.specs.Limits.{mostStudents}
 use lib.Seq.{length-take-le, take-at}
@@ -12,14 +12,14 @@ use native.Mathlib.Omega.{arith}
 use borrow.Author.Needs.{needs}
 use Rattle.report.proofs.list_read.Statement.{statement}
 use Rattle.report.proofs.list_read.Tie as tie
-use Rattle.report.proofs.list_kept.Reads as list-kept-reads
+use Rattle.report.proofs.list_noted.Reads as list-noted-reads
 use Rattle.report.proofs.students.collect.Reads as collect-reads
 
 -- a part of a column for each student
 part : (xs : List ℕ) → length xs ≤ mostStudents → length (take (length xs) (replicate {A = ℕ} mostStudents 0)) ≡ length xs
 part xs h = length-take-le _ _ (omega (arith, length-replicate {A = ℕ} mostStudents 0))
 
--- from the collecting: the start, and what is kept
+-- from the collecting: the start, and what is noted
 abbrev begun : tie.After-collect → tie.Start
 begun c = c .before .before .before .before .before .before .before .before .before .before .before
 
@@ -65,8 +65,8 @@ array-share-prefix-places c =
     let d = c .before .before .before .before .before in
     omega (arith, length-append (places d) (after d), d .collect .ensures .places-long)
 
-slice-aggregate-list-kept : tie.Need-slice-aggregate-list-kept
-slice-aggregate-list-kept c =
+slice-aggregate-list-noted : tie.Need-slice-aggregate-list-noted
+slice-aggregate-list-noted c =
     let d = c .before .before .before .before .before .before in
     sym (front-long d (places d) (d .collect .ensures .places-long))
 
@@ -75,11 +75,11 @@ array-share-prefix-aggregates c =
     let d = c .before .before .before .before .before .before in
     omega (arith, d .collect .ensures .long, d .collect .ensures .within, begun d .pre .few .students)
 
-slice-aggregate-list-kept-2 : tie.Need-slice-aggregate-list-kept-2
-slice-aggregate-list-kept-2 c = sym (eligible-long (c .before .before .before .before .before .before .before))
+slice-aggregate-list-noted-2 : tie.Need-slice-aggregate-list-noted-2
+slice-aggregate-list-noted-2 c = sym (eligible-long (c .before .before .before .before .before .before .before))
 
-list-kept-requires : tie.Need-list-kept-requires
-list-kept-requires c κs =
+list-noted-requires : tie.Need-list-noted-requires
+list-noted-requires c κs =
     let d = c .before .before .before .before .before .before .before .before in
     let a = begun d .args in
     let p = begun d .pre in
@@ -108,11 +108,11 @@ returns c =
     let a = begun d .args in
     let w = d .collect .ensures in
     let y = front d (places d) (w .places-long) in
-    let kept = take (d .collect .result) (buffer d) in
-    subst (Put (a .text .now) (c .before .before .list-kept .last .1 .1 .1 .1 .1 .0) 0 (c .before .before .list-kept .result))
-    ((λ i. listedKept (a .ids .now) (numbers d) (y i) kept (tableOf (a .summary .rate)) (a .summary .population))
-    ∙ listed-told (a .catalogue .now) (a .table .now) (a .summary .year) (tableOf (a .summary .rate)) (a .summary .population) (a .ids .now) (a .counts .now) (a .results .now) kept (numbers d) (places d) (begun d .pre .ids-long) (w .are (a .ids .now)))
-    (c .before .before .list-kept .ensures)
+    let eligible = take (d .collect .result) (buffer d) in
+    subst (Put (a .text .now) (c .before .before .list-noted .last .1 .1 .1 .1 .1 .0) 0 (c .before .before .list-noted .result))
+    ((λ i. listedNoted (a .ids .now) (numbers d) (y i) eligible (tableOf (a .summary .rate)) (a .summary .population))
+    ∙ listed-told (a .catalogue .now) (a .table .now) (a .summary .year) (tableOf (a .summary .rate)) (a .summary .population) (a .ids .now) (a .counts .now) (a .results .now) eligible (numbers d) (places d) (begun d .pre .ids-long) (w .are (a .ids .now)))
+    (c .before .before .list-noted .ensures)
 
 pub list-read-spec : {M : Type 1} → statement M
 list-read-spec =
@@ -124,10 +124,10 @@ list-read-spec =
     slice-aggregate-collect-2
     collect-requires
     array-share-prefix-places
-    slice-aggregate-list-kept
+    slice-aggregate-list-noted
     array-share-prefix-aggregates
-    slice-aggregate-list-kept-2
-    list-kept-requires
+    slice-aggregate-list-noted-2
+    list-noted-requires
     slice-home-numbers
     same-length
     same-length-2

@@ -1,6 +1,6 @@
 use Rattle.report.proofs.Puts.{put-none, put-more, shows-own, shown-short}
 use Rattle.report.proofs.Lining.{Far, far-none, far-all, far-more, after-most, one-more, none-more}
-use Rattle.report.specs.Inner.{columns, lineOr, lineKept, afterKept, Put}
+use Rattle.report.specs.Inner.{columns, lineOr, lineNoted, afterNoted, Put}
 use Rattle.listing.specs.Lines.{lineBytes, shown}
 use lib.ListN.{length, getD}
 use mathlib.Core.List.{List, [], _++_}
@@ -35,12 +35,12 @@ abbrev turn : tie.After-line-of Inv-loop μ-loop → tie.At-loop Inv-loop μ-loo
 turn c = c .before .before .before .before .before .before .before .before .before
 
 -- one more is eligible after an eligible student
-counted : (c : tie.Joined1 Inv-loop μ-loop) → let l = turn (made c) in c .if1 .j ≡ afterKept (l .loop .j) (getD (begun l .args .numbers .now) (l .loop .i) 0)
+counted : (c : tie.Joined1 Inv-loop μ-loop) → let l = turn (made c) in c .if1 .j ≡ afterNoted (l .loop .j) (getD (begun l .args .numbers .now) (l .loop .i) 0)
 counted c = ⊎-elim (λ w. one-more _ _ _ (w .0 .taken) (w .1)) (λ w. none-more _ _ _ (w .0 .left) (w .1)) (c .if1 .came)
 
--- the line is that of what is kept
+-- the line is that of what is noted
 line-is : (c : tie.After-line-of Inv-loop μ-loop) → let l = turn c in let a = begun l .args in
-    shown (c .line-of .result) ≡ lineKept (columns (a .aggregates .now) (a .ranks .now) (a .percentiles .now) (a .bands .now)) (l .loop .j) (getD (a .ids .now) (l .loop .i) 0) (getD (a .numbers .now) (l .loop .i) 0) (getD (a .places .now) (l .loop .i) 0)
+    shown (c .line-of .result) ≡ lineNoted (columns (a .aggregates .now) (a .ranks .now) (a .percentiles .now) (a .bands .now)) (l .loop .j) (getD (a .ids .now) (l .loop .i) 0) (getD (a .numbers .now) (l .loop .i) 0) (getD (a .places .now) (l .loop .i) 0)
 line-is c =
     let l = turn c .loop in
     let a = begun (turn c) .args in

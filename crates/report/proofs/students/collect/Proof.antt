@@ -18,7 +18,7 @@ use Rattle.report.proofs.students.join.Reads as join-reads
 use Rattle.report.proofs.students.number_in.Reads as number-in-reads
 use Rattle.report.proofs.students.place_in.Reads as place-in-reads
 
--- what is told of the first i students is kept, and their results end at a place; the numbers of results of the others still stand
+-- what is told of the first i students is noted, and their results end at a place; the numbers of results of the others still stand
 abbrev Inv-loop : tie.InvT-loop
 Inv-loop catalogue table year results counts₀ aggregates₀ places₀ i₀ place₀ eligible₀ counts aggregates places i place eligible =
     (i ≤ length counts₀) × (place ≤ mostResults * resultBytes * i) × (eligible ≤ i) × (length aggregates ≡ mostStudents) × (length counts ≡ length counts₀) × (length places ≡ length counts₀)

@@ -1,4 +1,4 @@
--- The lines of what is kept are those of the students.
+-- The lines of what is noted are those of the students.
 use Prim.Native.Nat.{ℕ, zero, suc, _+_, _*_, _≤_, _<_}
 use native.Mathlib.Omega.{arith}
 use mathlib.Core.Path.{_≡_, refl, sym, ap, _∙_}
@@ -21,37 +21,37 @@ use Rattle.bands.proofs.Placed.{best-exists}
 use Rattle.listing.specs.Lines.{cohortLine, studentLine, refusedLine}
 use Rattle.cohort.specs.Held.{Enrolled, idsOf}
 use Rattle.report.specs.Report.{Columns, columnsOf, outcome, withAggregate, aggregatesOf, lineOf, afterOne, linesOf, listed}
-use Rattle.report.specs.Inner.{studentsIn, numbersOf, placesOf, Kept, lineKept, afterKept, linesKept, eligibleKept, columns, listedKept}
+use Rattle.report.specs.Inner.{studentsIn, numbersOf, placesOf, Noted, lineNoted, afterNoted, linesNoted, eligibleNoted, columns, listedNoted}
 use Rattle.report.proofs.Lining.{eligible-least}
 
--- what is kept of a student tells its line and whether it is eligible
-line-told : (c : Columns) (j id : ℕ) (o : Outcome Values) → Refusing o → lineKept c j id (numberIn o) (placeIn o) ≡ lineOf c j id o
+-- what is noted of a student tells its line and whether it is eligible
+line-told : (c : Columns) (j id : ℕ) (o : Outcome Values) → Refusing o → lineNoted c j id (numberIn o) (placeIn o) ≡ lineOf c j id o
 line-told c j id (accepted v) h = refl
 line-told c j id (refused f) h = rw (ne-eqb (numberOf f) 0 (λ e. omega (arith, some-number f h))) refl
 
-after-told : (j : ℕ) (o : Outcome Values) → Refusing o → afterKept j (numberIn o) ≡ afterOne j o
+after-told : (j : ℕ) (o : Outcome Values) → Refusing o → afterNoted j (numberIn o) ≡ afterOne j o
 after-told j (accepted v) h = refl
 after-told j (refused f) h = rw (ne-eqb (numberOf f) 0 (λ e. omega (arith, some-number f h))) refl
 
 module _ (out : Enrolled → Outcome Values) (tabled : (s : Enrolled) → Refusing (out s)) where
-  lines-told : (c : Columns) (j : ℕ) (ss : List Enrolled) → linesKept c j (idsOf ss) (numbersOf out ss) (placesOf out ss) ≡ linesOf out c j ss
-  unfolding linesKept linesOf
+  lines-told : (c : Columns) (j : ℕ) (ss : List Enrolled) → linesNoted c j (idsOf ss) (numbersOf out ss) (placesOf out ss) ≡ linesOf out c j ss
+  unfolding linesNoted linesOf
   lines-told c j [] = refl
   lines-told c j (s ∷ ss) =
       rw (line-told c j (s .id) (out s) (tabled s), after-told j (out s) (tabled s)) (ap (λ (t : List ℕ). lineOf c j (s .id) (out s) ++ t) (lines-told c (afterOne j (out s)) ss))
 
-  eligible-told : (j : ℕ) (ss : List Enrolled) → eligibleKept j (numbersOf out ss) ≡ j + length (aggregatesOf out ss)
-  unfolding eligibleKept aggregatesOf
+  eligible-told : (j : ℕ) (ss : List Enrolled) → eligibleNoted j (numbersOf out ss) ≡ j + length (aggregatesOf out ss)
+  unfolding eligibleNoted aggregatesOf
   eligible-told j [] = omega arith
-  eligible-told j (s ∷ ss) = ap (λ (k : ℕ). eligibleKept k (numbersOf out ss)) (after-told j (out s) (tabled s)) ∙ go (out s) (λ k. eligible-told k ss)
+  eligible-told j (s ∷ ss) = ap (λ (k : ℕ). eligibleNoted k (numbersOf out ss)) (after-told j (out s) (tabled s)) ∙ go (out s) (λ k. eligible-told k ss)
     where
-      go : (o : Outcome Values) → ((k : ℕ) → eligibleKept k (numbersOf out ss) ≡ k + length (aggregatesOf out ss))
-          → eligibleKept (afterOne j o) (numbersOf out ss) ≡ j + length (withAggregate o (aggregatesOf out ss))
+      go : (o : Outcome Values) → ((k : ℕ) → eligibleNoted k (numbersOf out ss) ≡ k + length (aggregatesOf out ss))
+          → eligibleNoted (afterOne j o) (numbersOf out ss) ≡ j + length (withAggregate o (aggregatesOf out ss))
       go (accepted v) r = omega (arith, r (suc j))
       go (refused f) r = r j
 
 -- only the eligible are read of the columns
-same-line : (c d : Columns) (j id number place : ℕ) → (number ≡ 0 → lineKept c j id 0 place ≡ lineKept d j id 0 place) → lineKept c j id number place ≡ lineKept d j id number place
+same-line : (c d : Columns) (j id number place : ℕ) → (number ≡ 0 → lineNoted c j id 0 place ≡ lineNoted d j id 0 place) → lineNoted c j id number place ≡ lineNoted d j id number place
 same-line c d j id number place h = go (eqb number 0) refl
   where
     one : Columns → List ℕ
@@ -61,18 +61,18 @@ same-line c d j id number place h = go (eqb number 0) refl
     go true e = h (eqb-true number 0 e)
     go false e = refl
 
-same-lines : (c d : Columns) (n : ℕ) → ((j id place : ℕ) → j < n → lineKept c j id 0 place ≡ lineKept d j id 0 place)
-    → (j : ℕ) (ids numbers places : List ℕ) → eligibleKept j numbers ≤ n → linesKept c j ids numbers places ≡ linesKept d j ids numbers places
-unfolding linesKept eligibleKept
+same-lines : (c d : Columns) (n : ℕ) → ((j id place : ℕ) → j < n → lineNoted c j id 0 place ≡ lineNoted d j id 0 place)
+    → (j : ℕ) (ids numbers places : List ℕ) → eligibleNoted j numbers ≤ n → linesNoted c j ids numbers places ≡ linesNoted d j ids numbers places
+unfolding linesNoted eligibleNoted
 same-lines c d n h j ids [] places e = refl
 same-lines c d n h j ids (number ∷ numbers) places e =
     rw (same-line c d j (getD ids 0 0) number (getD places 0 0) (λ z. h j (getD ids 0 0) (getD places 0 0) (below z)))
-    (ap (λ (t : List ℕ). lineKept d j (getD ids 0 0) number (getD places 0 0) ++ t) (same-lines c d n h (afterKept j number) (drop 1 ids) numbers (drop 1 places) e))
+    (ap (λ (t : List ℕ). lineNoted d j (getD ids 0 0) number (getD places 0 0) ++ t) (same-lines c d n h (afterNoted j number) (drop 1 ids) numbers (drop 1 places) e))
   where
     below : number ≡ 0 → j < n
     below z =
-        let one : afterKept j number ≡ suc j = ap (afterKept j) z in
-        omega (arith, e, eligible-least (afterKept j number) numbers)
+        let one : afterNoted j number ≡ suc j = ap (afterNoted j) z in
+        omega (arith, e, eligible-least (afterNoted j number) numbers)
 
 -- a number of a list's front
 in-front : (n : ℕ) (xs ys : List ℕ) (j : ℕ) → take n xs ≡ ys → j < n → getD xs j 0 ≡ getD ys j 0
@@ -80,8 +80,8 @@ in-front n xs ys j e l = sym (getD-take n xs j 0 l) ∙ ap (λ (l : List ℕ). g
 
 -- so columns that begin with those of the eligible will do
 pub front-lines : (aggregates table : List ℕ) (Y : ℕ) (ranks percentiles bands x y z : List ℕ) → columns aggregates ranks percentiles bands ≡ columnsOf aggregates table Y
-    → (ids numbers places : List ℕ) → eligibleKept 0 numbers ≡ length aggregates
-    → linesKept (columns aggregates (ranks ++ x) (percentiles ++ y) (bands ++ z)) 0 ids numbers places ≡ linesKept (columnsOf aggregates table Y) 0 ids numbers places
+    → (ids numbers places : List ℕ) → eligibleNoted 0 numbers ≡ length aggregates
+    → linesNoted (columns aggregates (ranks ++ x) (percentiles ++ y) (bands ++ z)) 0 ids numbers places ≡ linesNoted (columnsOf aggregates table Y) 0 ids numbers places
 front-lines aggregates table Y ranks percentiles bands x y z e ids numbers places h =
     let n = length aggregates in
     let r = ap (λ (c : Columns). c .ranks) e in
@@ -106,7 +106,7 @@ unfolding studentsIn
 number-in zero ids counts results = refl
 number-in (suc n) ids counts results = ap suc (number-in n (drop 1 ids) (drop 1 counts) (drop (resultBytes * getD counts 0 0) results))
 
--- so the listing of what is kept is that of the students
+-- so the listing of what is noted is that of the students
 module _ (catalogue table : List ℕ) (year : ℕ) (shares : List ℕ) (Y : ℕ) (ids counts results : List ℕ) where
   abbrev out : Enrolled → Outcome Values
   out = outcome catalogue table year
@@ -118,17 +118,17 @@ module _ (catalogue table : List ℕ) (year : ℕ) (shares : List ℕ) (Y : ℕ)
   unfolding outcome
   out-tabled s = computed-tabled (student catalogue year (s .results)) table
 
-  pub eligible-are : (aggregates numbers places : List ℕ) → Kept out those aggregates numbers places → eligibleKept 0 numbers ≡ length aggregates
-  eligible-are aggregates numbers places k = ap (eligibleKept 0) (k .numbers-are) ∙ eligible-told out out-tabled 0 those ∙ zero-more ∙ sym (ap length (k .aggregates-are))
+  pub eligible-are : (aggregates numbers places : List ℕ) → Noted out those aggregates numbers places → eligibleNoted 0 numbers ≡ length aggregates
+  eligible-are aggregates numbers places k = ap (eligibleNoted 0) (k .numbers-are) ∙ eligible-told out out-tabled 0 those ∙ zero-more ∙ sym (ap length (k .aggregates-are))
     where
       zero-more : 0 + length (aggregatesOf out those) ≡ length (aggregatesOf out those)
       zero-more = omega arith
 
-  pub listed-told : (aggregates numbers places : List ℕ) → length ids ≡ length counts → Kept out those aggregates numbers places
-      → listedKept ids numbers places aggregates shares Y ≡ listed out shares Y those
+  pub listed-told : (aggregates numbers places : List ℕ) → length ids ≡ length counts → Noted out those aggregates numbers places
+      → listedNoted ids numbers places aggregates shares Y ≡ listed out shares Y those
   listed-told aggregates numbers places l k =
       let agg = aggregatesOf out those in
       let ids-are : ids ≡ idsOf those = sym (ap idsOf (ap (λ (j : ℕ). studentsIn j ids counts results) (sym l)) ∙ ids-in ids counts results) in
       let many : length ids ≡ length those = l ∙ sym (number-in (length counts) ids counts results) in
-      (λ i. cohortLine (many i) (length (k .aggregates-are i)) (remainder (k .aggregates-are i) shares Y) ++ linesKept (columnsOf (k .aggregates-are i) shares Y) 0 (ids-are i) (k .numbers-are i) (k .places-are i))
+      (λ i. cohortLine (many i) (length (k .aggregates-are i)) (remainder (k .aggregates-are i) shares Y) ++ linesNoted (columnsOf (k .aggregates-are i) shares Y) 0 (ids-are i) (k .numbers-are i) (k .places-are i))
       ∙ ap (λ (t : List ℕ). cohortLine (length those) (length agg) (remainder agg shares Y) ++ t) (lines-told out out-tabled (columnsOf agg shares Y) 0 those)

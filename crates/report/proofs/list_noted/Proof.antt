@@ -1,7 +1,7 @@
 use Rattle.report.proofs.Puts.{put-more, put-part, shows-own, shown-short}
-use Rattle.report.proofs.Keeping.{front-lines}
+use Rattle.report.proofs.Noting.{front-lines}
 use Rattle.report.proofs.Few.{remainder-within}
-use Rattle.report.specs.Inner.{columns, linesKept, Put}
+use Rattle.report.specs.Inner.{columns, linesNoted, Put}
 use Rattle.listing.specs.Lines.{cohortLine, lineBytes, shown}
 use Rattle.bands.specs.Placing.{remainder}
 use Rattle.curve.specs.Curve.{tableOf}
@@ -14,8 +14,8 @@ use borrow.Rule.Slice.PartMut.{putMid}
 use Prim.Native.Nat.{ℕ, _+_, _-_, _*_, _≤_}
 use native.Mathlib.Omega.{arith}
 use borrow.Author.Needs.{needs}
-use Rattle.report.proofs.list_kept.Statement.{statement}
-use Rattle.report.proofs.list_kept.Tie as tie
+use Rattle.report.proofs.list_noted.Statement.{statement}
+use Rattle.report.proofs.list_noted.Tie as tie
 use Rattle.listing.proofs.cohort_line.Reads as cohort-line-reads
 use Rattle.report.proofs.lines.lines.Reads as lines-reads
 use Rattle.report.proofs.placing.place.Reads as place-reads
@@ -126,15 +126,15 @@ returns c =
     subst (Put (a .text .now) t 0 start) (d .before .before .cohort-line .ensures .same ∙ ap (cohortLine (length (a .ids .now)) (length (a .aggregates .now))) (q .place .ensures .1)) (d .append .ensures) in
     let zeros : List ℕ = drop (length (a .aggregates .now)) (replicate mostStudents 0) in
     let l = q .place .last in
-    let text = linesKept (columns (a .aggregates .now) (l .1 .1 .1 .0 ++ zeros) (l .1 .1 .1 .1 .0 ++ zeros) (l .1 .1 .1 .1 .1 .0 ++ zeros)) 0 (a .ids .now) (a .numbers .now) (a .places .now) in
+    let text = linesNoted (columns (a .aggregates .now) (l .1 .1 .1 .0 ++ zeros) (l .1 .1 .1 .1 .0 ++ zeros) (l .1 .1 .1 .1 .1 .0 ++ zeros)) 0 (a .ids .now) (a .numbers .now) (a .places .now) in
     let second : Put t (putMid start (length t - start) t (lines .last .1 .1 .1 .1 .1 .1 .1 .0)) start (start + lines .result) text =
     put-part t (take (length t - start) (drop start t)) (lines .last .1 .1 .1 .1 .1 .1 .1 .0) start (length t - start) (lines .result) text (omega (arith, room-left d)) refl (omega (arith, lines .ensures .0 .ends, lines .ensures .1, room-left d, p .few)) (lines .ensures .0) in
     put-more (a .text .now) t _ 0 start (start + lines .result) _ _ first
     (subst (Put t _ start (start + lines .result)) (front-lines (a .aggregates .now) (tableOf (a .summary .rate)) (a .summary .population) (l .1 .1 .1 .0) (l .1 .1 .1 .1 .0) (l .1 .1 .1 .1 .1 .0) zeros zeros zeros (q .place .ensures .0) (a .ids .now) (a .numbers .now) (a .places .now) (p .eligible)) second)
     (omega arith)
 
-pub list-kept-spec : {M : Type 1} → statement M
-list-kept-spec =
+pub list-noted-spec : {M : Type 1} → statement M
+list-noted-spec =
     tie.close
     (tie.spec
     array-borrow-prefix-ranks
