@@ -13,7 +13,8 @@ use Rattle.bestset.specs.Promise.{Values}
 use Rattle.bestset.specs.Computed.{computed}
 use Rattle.bands.specs.Placing.{remainder}
 use Rattle.cohort.specs.Held.{Enrolled}
-use Rattle.listing.specs.Lines.{cohortLine, studentLine, refusedLine, lineBytes}
+use Rattle.listing.specs.Lines.{cohortLine, studentLine, refusedLine, lineBytes, shown, Shows}
+use Rattle.listing.specs.declared.writing.Line.{Line}
 use Rattle.report.specs.Sizes.{textBytes}
 use Rattle.report.specs.Report.{Columns, columnsOf, aggregatesOf, eligibleLine}
 
@@ -146,6 +147,11 @@ pub record Read (rate population : ℕ) (catalogue ids counts results text : Lis
   pub ids-long : length ids ≡ length counts
   pub few : Few counts results
   pub room : length text ≡ textBytes
+
+-- a line that shows a text, and room for it at a place
+pub record Appendable (line : Line) (text : List ℕ) (place : ℕ) : Type 0 where
+  pub shows : Shows line (shown line)
+  pub room : place + lineBytes ≤ length text
 
 -- a text put into a buffer, from a place to an end
 pub record Put (before after : List ℕ) (place end : ℕ) (text : List ℕ) : Type 0 where

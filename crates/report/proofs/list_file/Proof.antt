@@ -17,9 +17,34 @@ use Rattle.listing.proofs.file_line.Reads as file-line-reads
 use Rattle.report.proofs.list_read.Reads as list-read-reads
 use Rattle.report.proofs.writing.append.Reads as append-reads
 
--- from the reading: the start, what it left; and of an accepted file what is told
+-- the places of the proof: the start from the reading, and the reading of an accepted file
 abbrev begun : tie.After-read → tie.Start
 begun c = c .before .before .before .before .before .before .before .before .before
+
+abbrev reading : tie.After-known-told2 → tie.After-read
+reading c = c .before .before .before
+
+-- of an accepted file: what is told, from each later loan
+abbrev cutting : tie.After-struct-known2 → tie.After-known-told2
+cutting c = c .before .before
+
+abbrev at-catalogue : tie.After-catalogue2 → tie.After-known-told2
+at-catalogue c = cutting (c .before)
+
+abbrev at-table : tie.After-table2 → tie.After-known-told2
+at-table c = at-catalogue (c .before)
+
+abbrev at-ids : tie.After-ids2 → tie.After-known-told2
+at-ids c = at-table (c .before)
+
+abbrev at-results : tie.After-results2 → tie.After-known-told2
+at-results c = at-ids (c .before)
+
+abbrev at-counts : tie.After-counts2 → tie.After-known-told2
+at-counts c = at-results (c .before)
+
+abbrev at-call : tie.After-list-read-arg → tie.After-known-told2
+at-call c = at-counts (c .before)
 
 abbrev left : tie.After-read → Lent
 left c = let l = c .read .last in lent (l .1 .0) (l .1 .1 .0) (l .1 .1 .1 .0) (l .1 .1 .1 .1 .0) (l .1 .1 .1 .1 .1 .0) (l .1 .1 .1 .1 .1 .1 .0)
@@ -28,10 +53,10 @@ abbrev values : tie.After-known-told2 → Summary
 values c = c .before .read3 .given .0 .0
 
 abbrev after : tie.After-known-told2 → Lent
-after c = left (c .before .before .before)
+after c = left (reading c)
 
-told : (c : tie.After-known-told2) → Taken (begun (c .before .before .before) .args .file .now) zeros (after c) (values c)
-told c = taken _ zeros (c .before .before .before .read .result) (after c) (values c) (ap said (c .before .read3 .given .1)) (c .before .before .before .read .ensures)
+told : (c : tie.After-known-told2) → Taken (begun (reading c) .args .file .now) zeros (after c) (values c)
+told c = taken _ zeros (reading c .read .result) (after c) (values c) (ap said (c .before .read3 .given .1)) (reading c .read .ensures)
 
 long : (c : tie.After-known-told2) → Sized (after c)
 long c = sized _ zeros (after c) (values c) zeros-sized (told c)
@@ -52,7 +77,7 @@ file-line-requires : tie.Need-file-line-requires
 file-line-requires c κs = search needs
 
 append-requires : tie.Need-append-requires
-append-requires c κs = (shows-own (c .file-line .ensures), omega (arith, c .before .before .before .before .before .before .before .before .before .before .before .before .before .before .pre))
+append-requires c κs = record { shows = shows-own (c .file-line .ensures); room = omega (arith, begun (c .before .before .before .before .before) .pre) }
 
 enum-known-read-2 : tie.Need-enum-known-read-2
 enum-known-read-2 c = search needs
@@ -61,55 +86,55 @@ mul-c : tie.Need-mul-c
 mul-c c = let w = subjects-few (c .before) in search needs
 
 mul-t : tie.Need-mul-t
-mul-t c = let w = subjects-few (c .before .before) in search needs
+mul-t c = let w = subjects-few (cutting c) in search needs
 
 array-share-prefix-catalogue : tie.Need-array-share-prefix-catalogue
 array-share-prefix-catalogue c =
-    let d = c .before .before in
+    let d = cutting c in
     omega (arith, subjects-few d, long d .catalogue)
 
 slice-aggregate-list-read : tie.Need-slice-aggregate-list-read
 slice-aggregate-list-read c =
-    let d = c .before .before .before in
+    let d = at-catalogue c in
     sym (length-take-le (entryBytes * values d .subjects) (after d .catalogue) (omega (arith, subjects-few d, long d .catalogue)))
 
 array-share-prefix-table : tie.Need-array-share-prefix-table
 array-share-prefix-table c =
-    let d = c .before .before .before in
+    let d = at-catalogue c in
     omega (arith, subjects-few d, long d .table)
 
 slice-aggregate-list-read-2 : tie.Need-slice-aggregate-list-read-2
 slice-aggregate-list-read-2 c =
-    let d = c .before .before .before .before in
+    let d = at-table c in
     sym (length-take-le (rowBytes * values d .subjects) (after d .table) (omega (arith, subjects-few d, long d .table)))
 
 array-share-prefix-ids : tie.Need-array-share-prefix-ids
 array-share-prefix-ids c =
-    let d = c .before .before .before .before in
+    let d = at-table c in
     omega (arith, students-few d, long d .ids)
 
 slice-aggregate-list-read-3 : tie.Need-slice-aggregate-list-read-3
 slice-aggregate-list-read-3 c =
-    let d = c .before .before .before .before .before in
+    let d = at-ids c in
     sym (length-take-le (values d .students) (after d .ids) (omega (arith, students-few d, long d .ids)))
 
 slice-aggregate-list-read-4 : tie.Need-slice-aggregate-list-read-4
-slice-aggregate-list-read-4 c = sym (long (c .before .before .before .before .before .before) .results)
+slice-aggregate-list-read-4 c = sym (long (at-results c) .results)
 
 array-borrow-prefix-counts : tie.Need-array-borrow-prefix-counts
 array-borrow-prefix-counts c =
-    let d = c .before .before .before .before .before .before in
+    let d = at-results c in
     omega (arith, students-few d, long d .counts)
 
 slice-aggregate-list-read-5 : tie.Need-slice-aggregate-list-read-5
 slice-aggregate-list-read-5 c =
-    let d = c .before .before .before .before .before .before .before in
+    let d = at-counts c in
     sym (length-take-le (values d .students) (after d .counts) (omega (arith, students-few d, long d .counts)))
 
 list-read-requires : tie.Need-list-read-requires
 list-read-requires c κs =
-    let d = c .before .before .before .before .before .before .before .before in
-    ready _ zeros (after d) (values d) zeros-sized (told d) (begun (d .before .before .before) .args .text .now) (begun (d .before .before .before) .pre)
+    let d = at-call c in
+    ready _ zeros (after d) (values d) zeros-sized (told d) (begun (reading d) .args .text .now) (begun (reading d) .pre)
 
 same-length : tie.Need-same-length
 same-length c = search needs
@@ -126,8 +151,8 @@ same-length-2 c = search needs
 
 returns-2 : tie.Need-returns-2
 returns-2 c =
-    let d = c .before .before .before .before .before .before .before .before .before .before .before .before in
-    subst (Put (begun (d .before .before .before) .args .text .now) (c .before .before .before .list-read .last .1 .1 .1 .1 .1 .1 .0) 0 (c .before .before .before .list-read .result)) (accepted-text _ zeros (after d) (values d) zeros-sized (told d)) (c .before .before .before .list-read .ensures)
+    let d = at-call (c .before .before .before .before) in
+    subst (Put (begun (reading d) .args .text .now) (c .before .before .before .list-read .last .1 .1 .1 .1 .1 .1 .0) 0 (c .before .before .before .list-read .result)) (accepted-text _ zeros (after d) (values d) zeros-sized (told d)) (c .before .before .before .list-read .ensures)
 
 pub list-file-spec : {M : Type 1} → statement M
 list-file-spec =

@@ -21,12 +21,27 @@ use Rattle.report.proofs.lines.lines.Reads as lines-reads
 use Rattle.report.proofs.placing.place.Reads as place-reads
 use Rattle.report.proofs.writing.append.Reads as append-reads
 
--- the places of the proof: the placing, from the first line that was put; the start from there
-abbrev placed : tie.After-append → tie.After-place
-placed c = c .before .before .before .before .before .before
+-- the places of the proof: the start from each loan and from the placing; the placing from its end and from the first line that was put; that line from the end
+abbrev from-ranks : tie.After-ranks → tie.Start
+from-ranks c = c .before .before .before .before .before .before
+
+abbrev from-percentiles : tie.After-percentiles → tie.Start
+from-percentiles c = from-ranks (c .before)
+
+abbrev from-bands : tie.After-bands → tie.Start
+from-bands c = from-percentiles (c .before)
 
 abbrev begun : tie.After-place → tie.Start
-begun c = c .before .before .before .before .before .before .before .before .before
+begun c = from-bands (c .before)
+
+abbrev placing : tie.After-bands2 → tie.After-place
+placing c = c .before .before .before
+
+abbrev placed : tie.After-append → tie.After-place
+placed c = placing (c .before .before .before)
+
+abbrev put : tie.After-slice-known3 → tie.After-append
+put c = c .before .before .before .before .before .before .before .before .before
 
 parts : (xs : List ℕ) → length xs ≤ mostStudents → length (take (length xs) (replicate {A = ℕ} mostStudents 0)) ≡ length xs
 parts xs h = length-take-le _ _ (omega (arith, length-replicate {A = ℕ} mostStudents 0))
@@ -48,36 +63,36 @@ array-borrow-prefix-ranks : tie.Need-array-borrow-prefix-ranks
 array-borrow-prefix-ranks c = search needs
 
 slice-aggregate-place : tie.Need-slice-aggregate-place
-slice-aggregate-place c = sym (parts (c .before .before .before .before .before .before .args .aggregates .now) (c .before .before .before .before .before .before .pre .cohort .few))
+slice-aggregate-place c = sym (parts (from-ranks c .args .aggregates .now) (from-ranks c .pre .cohort .few))
 
 array-borrow-prefix-percentiles : tie.Need-array-borrow-prefix-percentiles
 array-borrow-prefix-percentiles c = search needs
 
 slice-aggregate-place-2 : tie.Need-slice-aggregate-place-2
-slice-aggregate-place-2 c = sym (parts (c .before .before .before .before .before .before .before .args .aggregates .now) (c .before .before .before .before .before .before .before .pre .cohort .few))
+slice-aggregate-place-2 c = sym (parts (from-percentiles c .args .aggregates .now) (from-percentiles c .pre .cohort .few))
 
 array-borrow-prefix-bands : tie.Need-array-borrow-prefix-bands
 array-borrow-prefix-bands c = search needs
 
 slice-aggregate-place-3 : tie.Need-slice-aggregate-place-3
-slice-aggregate-place-3 c = sym (parts (c .before .before .before .before .before .before .before .before .args .aggregates .now) (c .before .before .before .before .before .before .before .before .pre .cohort .few))
+slice-aggregate-place-3 c = sym (parts (from-bands c .args .aggregates .now) (from-bands c .pre .cohort .few))
 
 place-requires : tie.Need-place-requires
 place-requires c κs =
-    let part = parts (c .before .before .before .before .before .before .before .before .args .aggregates .now) (c .before .before .before .before .before .before .before .before .pre .cohort .few) in
-    record { cohort = c .before .before .before .before .before .before .before .before .pre .cohort; even = record { ranks = part; percentiles = part; bands = part } }
+    let part = parts (from-bands c .args .aggregates .now) (from-bands c .pre .cohort .few) in
+    record { cohort = from-bands c .pre .cohort; even = record { ranks = part; percentiles = part; bands = part } }
 
 cast-cohort-line : tie.Need-cast-cohort-line
-cast-cohort-line c = let w = c .before .before .before .before .before .before .before .before .before .before .before .before .pre .few in search needs
+cast-cohort-line c = let w = begun (placing c) .pre .few in search needs
 
 cast-cohort-line-2 : tie.Need-cast-cohort-line-2
-cast-cohort-line-2 c = let w = c .before .before .before .before .before .before .before .before .before .before .before .before .pre .cohort .few in search needs
+cast-cohort-line-2 c = let w = begun (placing c) .pre .cohort .few in search needs
 
 cast-cohort-line-3 : tie.Need-cast-cohort-line-3
 cast-cohort-line-3 c =
-    let a = c .before .before .before .before .before .before .before .before .before .before .before .before .args in
-    let w = c .before .before .before .before .before .before .before .before .before .before .before .before .pre .cohort .few in
-    let e = c .before .before .before .place .ensures .1 in
+    let a = begun (placing c) .args in
+    let w = begun (placing c) .pre .cohort .few in
+    let e = placing c .place .ensures .1 in
     let k = remainder-within (a .aggregates .now) (tableOf (a .summary .rate)) (a .summary .population) in
     search needs
 
@@ -85,7 +100,7 @@ cohort-line-requires : tie.Need-cohort-line-requires
 cohort-line-requires c κs = search needs
 
 append-requires : tie.Need-append-requires
-append-requires c κs = (shows-own (c .before .cohort-line .ensures), omega (arith, c .before .before .before .before .before .before .before .before .before .before .before .before .before .before .pre .room))
+append-requires c κs = record { shows = shows-own (c .before .cohort-line .ensures); room = omega (arith, begun (placing (c .before .before)) .pre .room) }
 
 sub-rest : tie.Need-sub-rest
 sub-rest c = omega (arith, room-left (c .before .before))
@@ -104,7 +119,7 @@ lines-requires c κs =
 
 add-result : tie.Need-add-result
 add-result c =
-    let d = c .before .before .before .before .before .before .before .before .before in
+    let d = put c in
     let w = start-few d in
     let few = begun (placed d) .pre .few in
     let r = c .before .before .lines .ensures .1 in
@@ -115,7 +130,7 @@ same-length c = search needs
 
 returns : tie.Need-returns
 returns c =
-    let d = c .before .before .before .before .before .before .before .before .before in
+    let d = put c in
     let q = placed d in
     let a = begun q .args in
     let p = begun q .pre in

@@ -19,9 +19,26 @@ use Rattle.report.proofs.students.collect.Reads as collect-reads
 part : (xs : List ℕ) → length xs ≤ mostStudents → length (take (length xs) (replicate {A = ℕ} mostStudents 0)) ≡ length xs
 part xs h = length-take-le _ _ (omega (arith, length-replicate {A = ℕ} mostStudents 0))
 
--- from the collecting: the start, and what is noted
+-- the places of the proof: the start from the last loan and from the collecting; the collecting from each later loan
+abbrev from-places : tie.After-places → tie.Start
+from-places c = c .before .before .before .before .before .before .before .before .before .before
+
 abbrev begun : tie.After-collect → tie.Start
-begun c = c .before .before .before .before .before .before .before .before .before .before .before
+begun c = from-places (c .before)
+
+abbrev at-numbers : tie.After-list-noted-arg → tie.After-collect
+at-numbers c = c .before .before .before .before .before
+
+abbrev at-places : tie.After-places3 → tie.After-collect
+at-places c = at-numbers (c .before)
+
+abbrev at-aggregates : tie.After-aggregates3 → tie.After-collect
+at-aggregates c = at-places (c .before)
+
+abbrev at-call : tie.After-list-noted-arg2 → tie.After-collect
+at-call c = at-aggregates (c .before)
+
+-- what is noted
 
 abbrev buffer : tie.After-collect → List ℕ
 buffer c = c .collect .last .1 .1 .1 .1 .1 .0
@@ -55,32 +72,34 @@ array-borrow-prefix-places : tie.Need-array-borrow-prefix-places
 array-borrow-prefix-places c = search needs
 
 slice-aggregate-collect-2 : tie.Need-slice-aggregate-collect-2
-slice-aggregate-collect-2 c = sym (part (c .before .before .before .before .before .before .before .before .before .before .args .counts .now) (c .before .before .before .before .before .before .before .before .before .before .pre .few .students))
+slice-aggregate-collect-2 c = sym (part (from-places c .args .counts .now) (from-places c .pre .few .students))
 
 collect-requires : tie.Need-collect-requires
-collect-requires c κs = record { few-subjects = c .before .before .before .before .before .before .before .before .before .before .pre .few-subjects; few = c .before .before .before .before .before .before .before .before .before .before .pre .few; aggregates-long = length-replicate {A = ℕ} mostStudents 0; places-long = part (c .before .before .before .before .before .before .before .before .before .before .args .counts .now) (c .before .before .before .before .before .before .before .before .before .before .pre .few .students) }
+collect-requires c κs =
+    let p = from-places c .pre in
+    record { few-subjects = p .few-subjects; few = p .few; aggregates-long = length-replicate {A = ℕ} mostStudents 0; places-long = part (from-places c .args .counts .now) (p .few .students) }
 
 array-share-prefix-places : tie.Need-array-share-prefix-places
 array-share-prefix-places c =
-    let d = c .before .before .before .before .before in
+    let d = at-numbers c in
     omega (arith, length-append (places d) (after d), d .collect .ensures .places-long)
 
 slice-aggregate-list-noted : tie.Need-slice-aggregate-list-noted
 slice-aggregate-list-noted c =
-    let d = c .before .before .before .before .before .before in
+    let d = at-places c in
     sym (front-long d (places d) (d .collect .ensures .places-long))
 
 array-share-prefix-aggregates : tie.Need-array-share-prefix-aggregates
 array-share-prefix-aggregates c =
-    let d = c .before .before .before .before .before .before in
+    let d = at-places c in
     omega (arith, d .collect .ensures .long, d .collect .ensures .within, begun d .pre .few .students)
 
 slice-aggregate-list-noted-2 : tie.Need-slice-aggregate-list-noted-2
-slice-aggregate-list-noted-2 c = sym (eligible-long (c .before .before .before .before .before .before .before))
+slice-aggregate-list-noted-2 c = sym (eligible-long (at-aggregates c))
 
 list-noted-requires : tie.Need-list-noted-requires
 list-noted-requires c κs =
-    let d = c .before .before .before .before .before .before .before .before in
+    let d = at-call c in
     let a = begun d .args in
     let p = begun d .pre in
     let w = d .collect .ensures in
@@ -104,7 +123,7 @@ same-length-2 c = search needs
 
 returns : tie.Need-returns
 returns c =
-    let d = c .before .before .before .before .before .before .before .before .before .before .before in
+    let d = at-call (c .before .before .before) in
     let a = begun d .args in
     let w = d .collect .ensures in
     let y = front d (places d) (w .places-long) in

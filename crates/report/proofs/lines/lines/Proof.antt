@@ -92,7 +92,7 @@ line-of-requires c κs = search needs
 append-requires : tie.Need-append-requires Inv-loop μ-loop
 append-requires c κs =
     let d = c .before in
-    (shows-own (d .line-of .ensures), omega (arith, begun (turn d) .pre .room, turn d .loop .inv .3))
+    record { shows = shows-own (d .line-of .ensures); room = omega (arith, begun (turn d) .pre .room, turn d .loop .inv .3) }
 
 add-j : tie.Need-add-j Inv-loop μ-loop
 add-j c = search needs
