@@ -21,10 +21,10 @@ same-fault (a at b) (c at d) p q = λ i. p i at q i
 
 -- what is told, with the values, tells the outcome back
 told-back : {A : Type 0} (none : A) (o p : Outcome A) → Refusing o → Refusing p → told o ≡ told p → valuesOr none o ≡ valuesOr none p → o ≡ p
-told-back none (accepted u) (accepted v) g h e d = ap accepted d
-told-back none (accepted u) (refused f) g h e d = absurd (omega (arith, some-number f h, ap (λ (t : Told). t .refusal) e))
-told-back none (refused f) (accepted v) g h e d = absurd (omega (arith, some-number f g, ap (λ (t : Told). t .refusal) e))
-told-back none (refused f) (refused k) g h e d = ap refused (same-fault f k (ap (λ (t : Told). t .refusal) e) (ap (λ (t : Told). t .place) e))
+told-back {A = A} none (accepted u) (accepted v) g h e d = ap accepted d
+told-back {A = A} none (accepted u) (refused f) g h e d = absurd (omega (arith, some-number f h, ap (λ (t : Told). t .refusal) e))
+told-back {A = A} none (refused f) (accepted v) g h e d = absurd (omega (arith, some-number f g, ap (λ (t : Told). t .refusal) e))
+told-back {A = A} none (refused f) (refused k) g h e d = ap refused (same-fault f k (ap (λ (t : Told). t .refusal) e) (ap (λ (t : Told). t .place) e))
 
 -- and C reads it so
 reads : {A : Type 0} (none : A) (o : Outcome A) → Refusing o → Reads none o (told o) (valuesOr none o)
