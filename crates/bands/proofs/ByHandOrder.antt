@@ -52,9 +52,12 @@ pub direct-order : (ruling (replicate 513 0) [] 1 (replicate 513 0) ≡ refused 
 unfolding full
 direct-order = (refl, refl, refl, refl, refl, refl, refl)
 
--- by tally 100000 students pass on to 11, whatever else is wrong
+-- by tally 2 before 11, whatever else is wrong: 100000 students pass on to 11, and one more do not
 pub tally-limit : (aggregates : List ℕ) → length aggregates ≡ 100000 → tallyRuling aggregates [] 0 (lent [] []) ≡ refused (11 at 0)
 tally-limit aggregates e = rw e refl
+
+pub tally-over : (aggregates : List ℕ) → length aggregates ≡ 100001 → tallyRuling aggregates [] 0 (lent [] []) ≡ refused (2 at 100000)
+tally-over aggregates e = rw e refl
 
 -- 11 before 9: the table, the bands, the counts, each alone
 pub tally-lengths : (counts : List ℕ) → length counts ≡ 50001
