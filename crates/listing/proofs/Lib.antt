@@ -1,4 +1,5 @@
 pub mod ByHand
+pub mod ByHandText
 pub mod Digits
 pub mod Fits
 pub mod Joining

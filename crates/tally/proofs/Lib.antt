@@ -1,4 +1,5 @@
 pub mod ByHand
+pub mod ByHandPlaces
 pub mod Counting
 pub mod Reaching
 pub mod Tallies
