@@ -40,7 +40,7 @@ lengths = (refl, refl, refl, refl, refl, refl)
 pub two-byte-lengths : (judgedAfter 0 1 0 ≡ one) × (judgedAfter 0 1 258 ≡ one) × (judgedAfter 1 4 296 ≡ one)
 two-byte-lengths = (refl, refl, refl)
 
--- an unknown tag, in whatever length: 0 and 7 of the length of tag 1, and 255
+-- an unknown tag, in whatever length: 0 with that of a tag 1, 7 with that of a tag 6, 255 with none
 pub unknown : (judgedAfter 0 0 2 ≡ one) × (judgedAfter 6 7 6 ≡ one) × (judgedAfter 6 255 0 ≡ one)
 unknown = (refl, refl, refl)
 

@@ -42,10 +42,11 @@ pub limits :
     × (resultsBytes ≡ 49152)
 limits = (refl, refl, refl, refl, refl, refl, refl, refl, refl)
 
--- five of a set, four of them General; a score to 10000, an aggregate to 50000, 50001 counts; years 1980, four before, 1984 to 9999
+-- five of a set, four of them General; a score to 10000, an aggregate to 50000, 50001 counts
 pub sets : (members ≡ 5) × (leastGeneral ≡ 4) × (topScore ≡ 10000) × (mostAggregate ≡ 50000) × (tallyCount ≡ 50001)
 sets = (refl, refl, refl, refl, refl)
 
+-- results from 1980, the assessment year and the four before it, 1984 to 9999
 pub years : (firstYear ≡ 1980) × (yearsBefore ≡ 4) × (leastYear ≡ 1984) × (mostYear ≡ 9999)
 years = (refl, refl, refl, refl)
 
