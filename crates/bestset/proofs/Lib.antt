@@ -9,4 +9,5 @@ pub mod Meeting
 pub mod Named
 pub mod Places
 pub mod Promised
+pub mod Scored
 pub mod Usable

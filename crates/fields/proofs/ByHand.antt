@@ -12,11 +12,11 @@ use Rattle.fields.specs.declared.order.Far.{Far}
 use Rattle.fields.specs.Inner.{headAt}
 use Rattle.fields.specs.declared.heads.Head.the-variants.{Whole, Cut}
 
-abbrev field : ℕ → List ℕ → Field
+abbrev pub field : ℕ → List ℕ → Field
 field tag v = record { tag = tag; value = v }
 
 -- how far: the last tag, subjects, students, results of the latest
-abbrev far : ℕ → ℕ → ℕ → ℕ → Far
+abbrev pub far : ℕ → ℕ → ℕ → ℕ → Far
 far last subjects students latest = record { last = last; subjects = subjects; students = students; latest = latest }
 
 -- a field of two bytes, and one of three hundred
@@ -56,20 +56,20 @@ pub counted :
 counted = (refl, refl, refl, refl, refl, refl)
 
 -- a field at offset 8 of a file that is read so far, with a value of so many bytes
-abbrev judgedWith : Far → ℕ → ℕ → Outcome (Unit {0})
+abbrev pub judgedWith : Far → ℕ → ℕ → Outcome (Unit {0})
 judgedWith so tag long = judged (orderRules mostResults so (field tag (replicate long 0)) 8) tt
 
 -- after a last tag, with one subject, one student and one result
-abbrev judgedAfter : ℕ → ℕ → ℕ → Outcome (Unit {0})
+abbrev pub judgedAfter : ℕ → ℕ → ℕ → Outcome (Unit {0})
 judgedAfter last = judgedWith (far last 1 1 1)
 
-abbrev good : Outcome (Unit {0})
+abbrev pub good : Outcome (Unit {0})
 good = accepted tt
 
-abbrev one : Outcome (Unit {0})
+abbrev pub one : Outcome (Unit {0})
 one = refused (1 at 8)
 
-abbrev over : Outcome (Unit {0})
+abbrev pub over : Outcome (Unit {0})
 over = refused (2 at 8)
 
 -- 1: each tag after those that it may follow, and after those next to them
@@ -125,7 +125,7 @@ pub limits :
 limits = (refl, refl, refl, refl, refl, refl, refl, refl, refl)
 
 -- 1: the end before the tag 1 and before the tag 4
-abbrev endedAt : Far → ℕ → Outcome (Unit {0})
+abbrev pub endedAt : Far → ℕ → Outcome (Unit {0})
 endedAt so end = judged (endRules so end) tt
 
 pub ends :

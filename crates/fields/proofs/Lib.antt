@@ -1,4 +1,5 @@
 pub mod ByHand
+pub mod ByHandTags
 pub mod Fitting
 pub mod Headed
 pub mod Inverse

@@ -1,34 +1,23 @@
--- An aggregate is at most five times the greatest score.
+-- The aggregates of a cohort are at most 50000, and the place of a refusal is short.
 use Prim.Native.Nat.{ℕ, zero, suc, _*_, _≤_, _<_}
 use native.Mathlib.Omega.{arith}
 use mathlib.Core.Path.{_≡_, refl, sym, subst}
 use mathlib.Core.List.{List, [], _∷_}
 use lib.ListN.{length, getD, take, drop, length-take}
 use lib.Seq.{length-take-le}
-use Rattle.paper.specs.Limits.{topScore, mostAggregate, mostStudents, mostSubjects, mostResults, resultBytes}
+use Rattle.paper.specs.Limits.{mostAggregate, mostStudents, mostSubjects, mostResults, resultBytes}
 use Rattle.paper.specs.Rulings.{Outcome, accepted, refused, placeIn}
 use Rattle.paper.proofs.Ruled.{IfRefused}
 use Rattle.catalogue.specs.Catalogue.{subjects}
-use Rattle.seek.specs.Sets.{positions, sumOver}
-use Rattle.results.specs.Results.{Student as One, student, result, held}
-use Rattle.results.specs.Scoring.{scoreAt}
-use Rattle.bestset.specs.Promise.{Values, Chosen}
+use Rattle.results.specs.Results.{Student as One, student, held}
+use Rattle.bestset.specs.Promise.{Values}
 use Rattle.bestset.specs.Computed.{computed}
 use Rattle.bestset.proofs.Places.{Near, place-near}
-use Rattle.results.proofs.Scores.{score-most}
+use Rattle.bestset.proofs.Scored.{aggregate-most}
 use Rattle.cohort.specs.Held.{Enrolled}
 use Rattle.report.specs.Report.{outcome, withAggregate, aggregatesOf}
 use Rattle.report.specs.Inner.{studentsIn, outcomeAt, Collected, Populated, Cohort}
 use Rattle.report.proofs.Best.{chosen}
-
-sum-most : (f : ℕ → ℕ) (l : List ℕ) → ((i : ℕ) → f i ≤ topScore) → sumOver f l ≤ topScore * length l
-unfolding sumOver
-sum-most f [] h = omega arith
-sum-most f (i ∷ l) h = omega (arith, h i, sum-most f l h)
-
-most : (one : One) (table : List ℕ) (v : Values) → Chosen one table v → v .aggregate ≤ mostAggregate
-most one table v w =
-    omega (arith, w .aggregate, w .admissible .five, sum-most (scoreAt one table) (positions (v .set)) (λ i. score-most table (result one i)))
 
 pub aggregates-most : (catalogue table : List ℕ) (year : ℕ) (ss : List Enrolled) (i : ℕ) → getD (aggregatesOf (outcome catalogue table year) ss) i 0 ≤ mostAggregate
 unfolding aggregatesOf outcome
@@ -38,7 +27,7 @@ aggregates-most catalogue table year (s ∷ ss) i = go (computed (student catalo
     go : (o : Outcome Values) → computed (student catalogue year (s .results)) table ≡ o → ((i : ℕ) → getD (aggregatesOf (outcome catalogue table year) ss) i 0 ≤ mostAggregate)
         → (i : ℕ) → getD (withAggregate o (aggregatesOf (outcome catalogue table year) ss)) i 0 ≤ mostAggregate
     go (refused f) e h i = h i
-    go (accepted v) e h zero = most (student catalogue year (s .results)) table v (chosen (student catalogue year (s .results)) table v e)
+    go (accepted v) e h zero = aggregate-most (student catalogue year (s .results)) table v (chosen (student catalogue year (s .results)) table v e)
     go (accepted v) e h (suc i) = h i
 
 -- so aggregates that are collected are those of a cohort

@@ -17,7 +17,7 @@ use Rattle.listing.specs.Text.{digitsIn, digits}
 use Rattle.report.specs.Report.{outcome, aggregatesOf, linesOf, textOf}
 
 -- year 2021, Q17=40, E17=20
-abbrev head : List ℕ
+abbrev pub head : List ℕ
 head =
     1 ∷ 0 ∷ 2 ∷ 7 ∷ 229
     ∷ 4 ∷ 0 ∷ 40 ∷ 0 ∷ 0 ∷ 0 ∷ 0 ∷ 0 ∷ 0 ∷ 0 ∷ 40 ∷ 0 ∷ 0 ∷ 0 ∷ 0 ∷ 0 ∷ 0 ∷ 0 ∷ 0 ∷ 0 ∷ 0 ∷ 0 ∷ 0

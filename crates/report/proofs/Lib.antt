@@ -2,6 +2,7 @@ pub mod Accepting
 pub mod Best
 pub mod Bounded
 pub mod ByHand
+pub mod ByHandListing
 pub mod Collecting
 pub mod Demands
 pub mod Few
