@@ -195,8 +195,8 @@ tied =
 abbrev pub seven : Student
 seven =
     student tied 2021
-        (dated 0 letterC 1 2021
-            (dated 1 letterC 1 2021 (dated 2 letterC 1 2021 (dated 3 letterC 1 2021 (dated 4 letterC 0 2021 (dated 5 letterC 1 2021 (dated 6 letterC 1 2021 [])))))))
+    (dated 0 letterC 1 2021
+    (dated 1 letterC 1 2021 (dated 2 letterC 1 2021 (dated 3 letterC 1 2021 (dated 4 letterC 0 2021 (dated 5 letterC 1 2021 (dated 6 letterC 1 2021 [])))))))
 
 pub ties : (admissible seven 79 ≡ true) × (admissible seven 55 ≡ true) × (admissible seven 31 ≡ false) × (admissible seven 47 ≡ false) × (chosen (admissible seven) (λ set. 0) (2 ^ 7) ≡ one 79)
 unfolding admissible kept usableAt usable first word onesFrom sumOver countOver earlier chosen

@@ -62,8 +62,8 @@ levels = (refl, refl, refl, refl, refl, refl)
 abbrev pub identified : ℕ → ℕ → List ℕ
 identified kind level =
     withIt (ranged kind 0 level 0) 0
-        (withIt (ranged kind 0 level 1) 1
-            (withIt (ranged kind 0 level 255) 255 (withIt (ranged kind 0 level 256) 256 (withIt (ranged kind 0 level 65535) 65535 []))))
+    (withIt (ranged kind 0 level 1) 1
+    (withIt (ranged kind 0 level 255) 255 (withIt (ranged kind 0 level 256) 256 (withIt (ranged kind 0 level 65535) 65535 []))))
 
 -- 1 or more for kinds 1 and 3, otherwise 0
 pub identities : (identified 1 0 ≡ 1 ∷ 255 ∷ 256 ∷ 65535 ∷ []) × (identified 2 0 ≡ 0 ∷ []) × (identified 3 0 ≡ 1 ∷ 255 ∷ 256 ∷ 65535 ∷ []) × (identified 4 0 ≡ 0 ∷ [])
