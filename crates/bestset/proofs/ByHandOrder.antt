@@ -45,12 +45,12 @@ pub result-bytes : (ruling (student [] 2021 (replicate 1 0)) [] ≡ refused (1 a
 unfolding first word outside inTurn repeated usableAt showsEnglish usable wrong
 result-bytes = (refl, refl, refl, refl, refl, refl, refl, refl)
 
--- English, another General, a Certificate III and a short course; each has scores in its slots 1 and 2 alone, the certificate none
+-- English, another General, a Certificate III and a short course; each has scores in its slots 1 and 2 alone
 abbrev pub row : List ℕ
 row = 0 ∷ 100 ∷ 0 ∷ 200 ∷ replicate 196 255
 
 abbrev pub in2021 : List ℕ → Outcome (Unit {0})
-in2021 results = ruling (student (1 ∷ 1 ∷ 0 ∷ 0 ∷ 7 ∷ 1 ∷ 0 ∷ 0 ∷ 0 ∷ 8 ∷ 6 ∷ 0 ∷ 3 ∷ 0 ∷ 0 ∷ 5 ∷ 0 ∷ 0 ∷ 0 ∷ 0 ∷ []) 2021 results) (row ++ (row ++ (replicate 200 255 ++ row)))
+in2021 results = ruling (student (1 ∷ 1 ∷ 0 ∷ 0 ∷ 7 ∷ 1 ∷ 0 ∷ 0 ∷ 0 ∷ 8 ∷ 6 ∷ 0 ∷ 3 ∷ 0 ∷ 0 ∷ 5 ∷ 0 ∷ 0 ∷ 0 ∷ 0 ∷ []) 2021 results) (row ++ (row ++ (row ++ row)))
 
 -- subject, letter, number, year, and more
 abbrev pub took : ℕ → ℕ → ℕ → ℕ → List ℕ → List ℕ
@@ -86,11 +86,10 @@ pub in-turn : (in2021 (slotless (unknown [])) ≡ refused (5 at 0)) × (in2021 (
 unfolding first word outside inTurn repeated usableAt showsEnglish usable wrong unscored scoreFound found slotOf
 in-turn = (refl, refl, refl, refl, refl, refl, refl)
 
--- 5 of a result that was replaced and has no slot; of one that is not usable there is none: 2016, VET with N
+-- 5 of a result that was replaced and has no slot; of one of 2016 there is none
 pub replaced : (in2021 (took 0 letterC 3 2020 (good [])) ≡ refused (5 at 0)) × (in2021 (took 0 letterC 3 2017 (good [])) ≡ refused (5 at 0)) × (in2021 (took 0 letterC 3 2016 (good [])) ≡ accepted tt)
-    × (in2021 (good (took 2 letterN 0 2021 [])) ≡ accepted tt) × (in2021 (good (took 2 letterY 0 2021 [])) ≡ refused (5 at 1))
 unfolding first word outside inTurn repeated usableAt showsEnglish usable wrong unscored scoreFound found slotOf
-replaced = (refl, refl, refl, refl, refl)
+replaced = (refl, refl, refl)
 
 -- 5 of any result before 6
 pub five-before-six : (in2021 (slotless (slotless [])) ≡ refused (5 at 0)) × (in2021 (took 1 letterC 1 2021 (slotless [])) ≡ refused (5 at 1)) × (in2021 (good (good (slotless []))) ≡ refused (5 at 2))
@@ -101,9 +100,10 @@ five-before-six = (refl, refl, refl)
 pub twice : (in2021 (good (good [])) ≡ refused (6 at 1)) × (in2021 (good (took 1 letterC 1 2021 (took 1 letterC 2 2021 (good [])))) ≡ refused (6 at 2)) × (in2021 (good (took 0 letterC 1 2020 [])) ≡ accepted tt)
     × (in2021 (good (took 1 letterC 1 2021 [])) ≡ accepted tt) × (in2021 (good (took 3 letterC 0 2021 (took 3 letterC 0 2021 []))) ≡ accepted tt)
     × (in2021 (good (took 2 letterN 0 2021 (took 2 letterN 0 2021 []))) ≡ accepted tt) × (in2021 (good (took 1 letterC 1 2016 (took 1 letterC 1 2016 []))) ≡ accepted tt)
-    × (in2021 (good (took 1 letterC 1 2017 (took 1 letterC 1 2017 []))) ≡ refused (6 at 2))
+    × (in2021 (good (took 1 letterC 1 2017 (took 1 letterC 1 2017 []))) ≡ refused (6 at 2)) × (in2021 (good (took 2 letterY 0 2021 (took 2 letterY 0 2021 []))) ≡ refused (6 at 2))
+    × (in2021 (good (took 2 letterY 0 2021 (took 2 letterN 0 2021 []))) ≡ accepted tt) × (in2021 (good (took 2 letterN 0 2021 (took 2 letterY 0 2021 []))) ≡ accepted tt)
 unfolding first word outside inTurn repeated usableAt showsEnglish usable wrong unscored scoreFound found slotOf
-twice = (refl, refl, refl, refl, refl, refl, refl, refl)
+twice = (refl, refl, refl, refl, refl, refl, refl, refl, refl, refl, refl)
 
 -- 6 before 7; and a student without English is well-formed
 pub six-before-seven : (in2021 (took 0 letterD 1 2021 (took 0 letterD 1 2021 [])) ≡ refused (6 at 1)) × (in2021 (took 0 letterD 1 2021 []) ≡ refused (7 at 0)) × (in2021 (took 1 letterA 1 2021 []) ≡ refused (7 at 0))

@@ -77,6 +77,10 @@ englishExamination = 16
 abbrev pub mathsExamination : ℕ
 mathsExamination = 17
 
+-- an extension that has the identity 3 too, which no catalogue may
+abbrev pub biologyExtension : ℕ
+biologyExtension = 18
+
 abbrev pub catalogue : List ℕ
 catalogue =
     1 ∷ 1 ∷ 0 ∷ 0 ∷ 1
@@ -97,6 +101,7 @@ catalogue =
     ∷ 1 ∷ 0 ∷ 0 ∷ 1 ∷ 3
     ∷ 3 ∷ 1 ∷ 0 ∷ 0 ∷ 6
     ∷ 3 ∷ 2 ∷ 0 ∷ 0 ∷ 7
+    ∷ 2 ∷ 0 ∷ 0 ∷ 0 ∷ 3
     ∷ []
 
 -- results of 2021, one to a subject; and their student
@@ -131,12 +136,12 @@ pub strand-2 : (five maths biology chemistry physics appliedMaths ≡ false) × 
 unfolding admissible kept usableAt usable first word onesFrom sumOver countOver
 strand-2 = (refl, refl, refl, refl, refl, refl)
 
--- no two of kinds 1 or 3 with one identity: 1 and 3, 3 and 3, 1 and 1; 3 and 259 are two; kind 2 has none to share
+-- no two of kinds 1 or 3 with one identity: 1 and 3, 3 and 3, 1 and 1; 3 and 259 are two; kind 2 is free of it
 pub identities : (five english biology biologyExamination chemistry physics ≡ false) × (five biologyExamination english chemistry physics biology ≡ false) × (five english biologyAgain biologyExamination chemistry physics ≡ false)
     × (five english biology marineBiology chemistry physics ≡ false) × (five english biology other259 chemistry physics ≡ true) × (five english marineBiology maths chemistry physics ≡ true)
-    × (five english moreEnglish moreMaths chemistry physics ≡ true)
+    × (five english moreEnglish moreMaths chemistry physics ≡ true) × (five english biology biologyExtension chemistry physics ≡ true) × (five english biologyExtension biology chemistry physics ≡ true)
 unfolding admissible kept usableAt usable first word onesFrom sumOver countOver
-identities = (refl, refl, refl, refl, refl, refl, refl)
+identities = (refl, refl, refl, refl, refl, refl, refl, refl, refl)
 
 -- five results: of six all, five and four; of five one that is not there
 abbrev pub six : List ℕ
