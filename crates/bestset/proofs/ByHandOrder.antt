@@ -9,9 +9,8 @@ use Rattle.paper.specs.Rulings.{Outcome, accepted, refused, _at_, inTurn, judge
 use Rattle.paper.specs.Letters.{letterA, letterC, letterD, letterN, letterY}
 use Rattle.catalogue.specs.Catalogue.{outside}
 use Rattle.catalogue.proofs.ByHand.{biology, bad}
-use Rattle.catalogue.proofs.ByHandEntries.{those}
 use Rattle.scores.specs.Scores.{found, slotOf}
-use Rattle.results.specs.Results.{student, held}
+use Rattle.results.specs.Results.{student}
 use Rattle.results.specs.Scoring.{scoreFound}
 use Rattle.results.specs.Counting.{usable, usableAt, showsEnglish}
 use Rattle.bestset.specs.Rules.{wrong, unscored, repeated, studentRules}

@@ -1,5 +1,4 @@
 -- Rulings on catalogues, computed.
-use Prim.Native.Nat.{ℕ}
 use mathlib.Core.Path.{_≡_, refl}
 use mathlib.Core.List.{[], _∷_, _++_}
 use Rattle.paper.specs.Lists.{first}
