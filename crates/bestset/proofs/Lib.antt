@@ -1,5 +1,8 @@
 pub mod Bridge
 pub mod ByHand
+pub mod ByHandGrades
+pub mod ByHandOrder
+pub mod ByHandSets
 pub mod Choosing
 pub mod Deciding
 pub mod Demand

@@ -1,2 +1,4 @@
+pub mod ByHandCounting
+pub mod ByHandResults
 pub mod Read
 pub mod Scores

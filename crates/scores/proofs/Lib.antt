@@ -1,4 +1,5 @@
 pub mod ByHand
+pub mod ByHandSlots
 pub mod Filling
 pub mod Promised
 pub mod Rowed
