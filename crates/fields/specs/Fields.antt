@@ -58,7 +58,7 @@ Uncut [] = Unit {0}
 Uncut (whole p f ∷ ps) = Uncut ps
 Uncut (cut p ∷ ps) = ⊥
 
--- fields from offset p on, each beside its own
+-- fields from offset p on, each beside its own offset
 abbrev pub besideOffsets : ℕ → List Field → List Piece
 besideOffsets p [] = []
 besideOffsets p (f ∷ fs) = whole p f ∷ besideOffsets (p + length (fieldBytes f)) fs
