@@ -13,7 +13,7 @@ use Rattle.bestset.specs.Promise.{Values}
 use Rattle.bestset.specs.Computed.{computed}
 use Rattle.bands.specs.Placing.{remainder}
 use Rattle.cohort.specs.Held.{Enrolled}
-use Rattle.listing.specs.Lines.{cohortLine, studentLine, refusedLine, lineBytes, shown, Shows}
+use Rattle.listing.specs.Lines.{cohortLine, refusedLine, lineBytes, shown, Shows}
 use Rattle.listing.specs.declared.writing.Line.{Line}
 use Rattle.report.specs.Sizes.{textBytes}
 use Rattle.report.specs.Report.{Columns, columnsOf, aggregatesOf, eligibleLine}
@@ -95,13 +95,13 @@ pub record Placeable (rate population : ℕ) (c : Columns) : Type 0 where
   pub cohort : Cohort (c .aggregates) rate population
   pub even : Even c
 
--- a student's line: with the number 0 that of an eligible one
-abbrev pub lineOr : ℕ → ℕ → ℕ → ℕ → ℕ → ℕ → ℕ → List ℕ
-lineOr id number place aggregate rank percentile band = if number =? 0 then studentLine id aggregate rank percentile band else refusedLine id number place
+-- a student's line: with the number 0 the one that is given for an eligible student, else that of the refusal
+abbrev pub lineOr : List ℕ → ℕ → ℕ → ℕ → List ℕ
+lineOr line id number place = if number =? 0 then line else refusedLine id number place
 
 -- the line of the student of whom this is noted, and who is, if eligible, the j-th of the eligible
 abbrev pub lineNoted : Columns → ℕ → ℕ → ℕ → ℕ → List ℕ
-lineNoted c j id number place = if number =? 0 then eligibleLine c j id else refusedLine id number place
+lineNoted c j id number place = lineOr (eligibleLine c j id) id number place
 
 -- how many are eligible with one student more
 abbrev pub afterNoted : ℕ → ℕ → ℕ

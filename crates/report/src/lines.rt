@@ -2,7 +2,7 @@
 ghost use mathlib.Core.Path.{_≡_};
 ghost use Prim.Native.Nat.{_*_, _≤_};
 ghost use lib.ListN.{length, getD};
-ghost use Rattle.listing.specs.Lines.{Shows, lineBytes};
+ghost use Rattle.listing.specs.Lines.{studentLine, Shows, lineBytes};
 ghost use Rattle.report.specs.Inner.{columns, lineOr, linesNoted, Listable, Put};
 use crate::writing;
 use listing::writing::Line;
@@ -28,7 +28,7 @@ fn line_of(
     percentile: u32,
     band: u16,
 ) -> Line
-    ensures { λ r. ⌜ Shows r (lineOr id number place aggregate rank percentile band) ⌝ }
+    ensures { λ r. ⌜ Shows r (lineOr (studentLine id aggregate rank percentile band) id number place) ⌝ }
 {
     if number == 0 {
         return listing::student_line(id, aggregate, rank, percentile, band);

@@ -1,7 +1,7 @@
 use Rattle.report.proofs.Puts.{put-none, put-more, shows-own, shown-short}
 use Rattle.report.proofs.Lining.{Far, far-none, far-all, far-more, after-most, one-more, none-more}
 use Rattle.report.specs.Inner.{columns, lineOr, lineNoted, afterNoted, Put}
-use Rattle.listing.specs.Lines.{lineBytes, shown}
+use Rattle.listing.specs.Lines.{studentLine, lineBytes, shown}
 use lib.ListN.{length, getD}
 use mathlib.Core.List.{List, [], _++_}
 use mathlib.Core.Logic.{⊎-elim}
@@ -45,7 +45,7 @@ line-is c =
     let l = turn c .loop in
     let a = begun (turn c) .args in
     c .line-of .ensures .same
-    ∙ ap (λ (n : ℕ). lineOr (getD (a .ids .now) (l .i) 0) (getD (a .numbers .now) (l .i) 0) (getD (a .places .now) (l .i) 0) n (getD (a .ranks .now) (l .j) 0) (getD (a .percentiles .now) (l .j) 0) (getD (a .bands .now) (l .j) 0))
+    ∙ ap (λ (n : ℕ). lineOr (studentLine (getD (a .ids .now) (l .i) 0) n (getD (a .ranks .now) (l .j) 0) (getD (a .percentiles .now) (l .j) 0) (getD (a .bands .now) (l .j) 0)) (getD (a .ids .now) (l .i) 0) (getD (a .numbers .now) (l .i) 0) (getD (a .places .now) (l .i) 0))
     (c .before .before .before .before .number-at .ensures)
 
 loop-holds : tie.Need-loop-holds Inv-loop μ-loop
