@@ -1,3 +1,4 @@
 pub mod Ahead
 pub mod Scored
 pub mod Office
+pub mod ByHand
