@@ -1,6 +1,10 @@
 """What the tools know of the repository: its crates, their files, and the form of a must-fail edit."""
 import os
 import re
+import signal
+
+# What a tool prints may be cut short, by `head` say.
+signal.signal(signal.SIGPIPE, signal.SIG_DFL)
 
 ROOT = os.path.dirname(os.path.dirname(os.path.abspath(__file__)))
 

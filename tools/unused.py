@@ -64,7 +64,7 @@ def sources(listed):
 
 def for_the_checker(path, local):
     """In a proof file the `-reads` of callees are there so that the checker can name what it prints."""
-    return path.endswith("/Proof.antt") and local.endswith("reads")
+    return path.endswith("/Proof.antt") and local.endswith("-reads")
 
 
 def unused_imports(listed):
