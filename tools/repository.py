@@ -10,7 +10,7 @@ ROOT = os.path.dirname(os.path.dirname(os.path.abspath(__file__)))
 
 # What a log's first error says where a proof no longer fits the code, so that no fact was refused.
 SHAPE = re.compile(
-    r"has no `Need-|that can be named from here|is not in scope|components but its type has|has no field `"
+    r"has no `Need-|that can be named from here|is not in scope|components but its type has|record `[^`]*\.Lts[^`]*` has no field"
 )
 
 
