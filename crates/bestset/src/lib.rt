@@ -22,7 +22,8 @@ pub enum Answer {
     Refused(Refusal),
 }
 
-// The best set of a well-formed student, from what is read of the results.
+// The best set of a well-formed student, from what is read of the results. Catalogue, table and year are there for the contract, which speaks of the
+// student; the search reads them no more.
 fn choose(catalogue: &[u8], table: &[u8], year: u64, results: &[u8], read: Read) -> Answer
     requires { ⌜ Choosable (student (now catalogue) year (now results)) (now table) read ⌝ }
     ensures { λ r. ⌜ Answered (student (now (catalogue .entry)) year (now (results .entry))) (now (table .entry)) (said r) ⌝ }

@@ -44,7 +44,7 @@ pub(crate) fn marked(mask: u16, i: usize, belongs: bool) -> u16
     mask
 }
 
-// Whether both hold.
+// Whether both hold: as a call, so that filling in a mask has no branch of its own.
 fn both(one: bool, other: bool) -> bool
     ensures { λ r. ⌜ r ≡ (one && other) ⌝ }
 {

@@ -36,6 +36,7 @@ pub fn entry_at(catalogue: &[u8], i: usize) -> Entry
 fn strand_fits(entry: Entry) -> bool
     ensures { λ r. ⌜ r ≡ strandFits entry ⌝ }
 {
+    // Kinds 5 and 6; a kind over 6 is outside by itself.
     if SHORT_COURSE <= entry.kind {
         return entry.strand == 0;
     }

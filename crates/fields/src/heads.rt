@@ -18,6 +18,7 @@ pub fn head_at(file: &[u8], place: usize) -> Head
     if file.len() < HEAD_BYTES {
         return Head::Cut;
     }
+    // By the room that is left: a place with three bytes and a length more could wrap.
     let room = file.len() - HEAD_BYTES;
     if room < place {
         return Head::Cut;

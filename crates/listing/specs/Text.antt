@@ -22,7 +22,8 @@ zeroDigit = 48
 abbrev pub digit : ℕ → ℕ
 digit n = zeroDigit + n % 10
 
--- n in decimal, with no leading zeros: the digits of n/10, where n has more than one, and the last. k bounds how many there are before the last
+-- n in decimal, with no leading zeros: the digits of n/10, where n has more than one, and the last. k bounds how many there are before the last.
+-- By cases on the test, so that only the case that is met is computed, and not as many steps as n is great
 unfoldable pub digitsIn : ℕ → ℕ → List ℕ
 digitsIn zero n = digit n ∷ []
 digitsIn (suc k) n = elim (n <? 10) [ true ↦ digit n ∷ [] | false ↦ digitsIn k (n / 10) ++ (digit n ∷ []) ]

@@ -11,6 +11,7 @@ pub fn nearest(a: u64, b: u64) -> u64
     }
     let whole = a / b;
     let rest = a % b;
+    // The rest against what it lacks to b: twice the rest could wrap.
     if rest < b - rest {
         return whole;
     }

@@ -1,4 +1,5 @@
-// Numbers of fewer bits as numbers of more: of 64, of 16, of 32.
+// Numbers of fewer bits as numbers of more: of 64, of 16, of 32. Each is a function, so that its contract says once what a cast would leave to be shown
+// at every place: that the number is the same, and how great it may be.
 ghost use mathlib.Core.Path.{_≡_};
 ghost use Prim.Native.Nat.{_<_};
 

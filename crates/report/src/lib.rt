@@ -99,6 +99,7 @@ fn list_read(
         &mut aggregates,
         &mut places[..students],
     );
+    // `collect` has left there the numbers of the refusals.
     let numbers = counts;
     list_noted(
         summary,

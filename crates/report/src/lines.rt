@@ -57,6 +57,7 @@ pub(crate) fn lines(
     let mut end = 0;
     while i < ids.len() {
         let number = numbers[i];
+        // j students before this one are eligible. Of a refused student the columns at j are read all the same, and not told; past the aggregates that is 0.
         let line = line_of(
             ids[i],
             number,

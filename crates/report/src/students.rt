@@ -89,6 +89,7 @@ pub(crate) fn collect(
         let answer = best_at(catalogue, table, year, results, place, count);
         eligible = join(answer, eligible, aggregates);
         counts[i] = number_in(answer);
+        // A student's place is at most 64 subjects, 16 results and the greatest limit, 64: `place-near` (bestset/proofs/Places.antt).
         places[i] = place_in(answer) as u8;
         place += RESULT_BYTES * count;
         i += 1;

@@ -29,6 +29,7 @@ fn recent(year: u64, own: u16) -> bool
     ensures { λ r. ⌜ r ≡ recent year own ⌝ }
 {
     let own = wide16(own);
+    // Up from the result's own year: of the assessment year, which may be any number here, four less could fall below 0.
     ranges::within(own, own + YEARS_BEFORE, year)
 }
 

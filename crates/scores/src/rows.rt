@@ -25,6 +25,7 @@ fn fill_row(row: &mut [u8])
 pub fn clear(table: &mut [u8], subject: usize)
     ensures { λ _. ⌜ now (table .exit) ≡ cleared (now (table .entry)) subject ⌝ }
 {
+    // By a quotient: the bytes before any subject at all could wrap.
     if subject < table.len() / ROW_BYTES {
         let start = ROW_BYTES * subject;
         fill_row(&mut table[start..start + ROW_BYTES]);

@@ -28,7 +28,7 @@ pub enum Slot {
     Over,
 }
 
-// The slot of an Applied letter.
+// The slot of an Applied letter; 0, which is no slot, of any other.
 fn letter_slot(letter: u8) -> u8
     ensures { λ r. ⌜ r ≡ letterSlot letter ⌝ }
 {

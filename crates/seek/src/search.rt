@@ -74,6 +74,7 @@ fn admissible(test: Test, held: usize, set: u16) -> bool
     requires { ⌜ OfKept (test .kept) held set ⌝ }
     ensures { λ r. ⌜ Decides r (Allowed test set) ⌝ }
 {
+    // The search tries fives alone; the rule is tested all the same, so that the whole test stands here.
     if u16::count_ones(set) != MEMBERS {
         return false;
     }
@@ -104,6 +105,7 @@ fn better(test: Test, held: usize, best: Lead, set: u16, sum: u32) -> Lead
     requires { ⌜ OfKept (test .kept) held set ⌝ }
     ensures { λ r. ⌜ Bettered (Allowed test) best set sum r ⌝ }
 {
+    // The sum first: it is the cheaper test.
     if beats(best, sum) && admissible(test, held, set) {
         return Lead::Leading { total: sum, set };
     }
@@ -149,6 +151,7 @@ fn with_fourth(
 {
     let mut best = best;
     let mut i = at;
+    // Up to the last but one: a fifth comes after it.
     while i + 1 < held {
         if test.kept & (1u16 << i) != 0 {
             let four = set | (1u16 << i);

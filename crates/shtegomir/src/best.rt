@@ -38,6 +38,7 @@ fn flatten(answer: Answer) -> Best
     }
 }
 
+// The year has 32 bits, so that a caller's wrong year is refused and never cut to a right one.
 #[no_mangle]
 pub extern "C" fn shtegomir_best_set(
     catalogue: &[u8],
