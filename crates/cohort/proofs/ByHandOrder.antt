@@ -13,7 +13,7 @@ use Rattle.scores.specs.Scores.{found}
 use Rattle.scores.specs.Rows.{stored}
 use Rattle.curve.specs.Population.{S, E}
 use Rattle.fields.specs.Fields.{pieces}
-use Rattle.cohort.specs.Held.{Held, nothing, idsOf, countsOf, resultsOf}
+use Rattle.cohort.specs.Held.{nothing, idsOf, countsOf}
 use Rattle.cohort.specs.Taking.{newRow}
 use Rattle.cohort.specs.Judging.{holdsId}
 use Rattle.cohort.specs.Reading.{Reader, fieldRules, body, reading}

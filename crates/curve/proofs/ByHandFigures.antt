@@ -2,7 +2,7 @@
 use Prim.Native.Nat.{ℕ, _+_}
 use mathlib.Core.Path.{_≡_, refl}
 use mathlib.Core.List.{List, [], _∷_}
-use lib.ListN.{length, replicate, set}
+use lib.ListN.{replicate, set}
 use Rattle.paper.specs.Limits.{ages, figureCount, bandCount}
 use Rattle.paper.specs.Lists.{sum, first}
 use Rattle.paper.specs.Rounding.{nearest}

@@ -1,7 +1,6 @@
 -- The participation table: the knot, the one formula or the other, and entries rounded down.
-use Prim.Native.Nat.{ℕ}
 use mathlib.Core.Path.{_≡_, refl}
-use lib.ListN.{length, getD}
+use lib.ListN.{getD}
 use Rattle.paper.specs.Lists.{listed}
 use Rattle.curve.specs.Curve.{knot, lower, upper, entry, tableOf}
 

@@ -1,7 +1,7 @@
 -- A listing with somebody left over, computed: for the office's crate has the walk that report has no need of.
 use Prim.Native.Nat.{ℕ}
 use mathlib.Core.Path.{_≡_, refl}
-use mathlib.Core.List.{List, [], _∷_, _++_}
+use mathlib.Core.List.{[], _∷_, _++_}
 use Rattle.paper.specs.Rounding.{nearest}
 use Rattle.paper.specs.Lists.{sum, count, sumOf, listed}
 use Rattle.paper.specs.Words.{_=?_, if_then_else_}

@@ -15,7 +15,7 @@ use Rattle.paper.specs.Lists.{pick}
 use Rattle.paper.specs.Bytes.{byte, word, long, wordBytes, longBytes, recordAt}
 use Rattle.paper.specs.Parts.{laid, put}
 use Rattle.paper.proofs.Parted.{laid-in, laid-off, laid-next, length-laid, put-there, put-none}
-use Rattle.paper.proofs.Past.{byte-past, word-past, long-past}
+use Rattle.paper.proofs.Past.{byte-past, word-past}
 
 -- how many bytes there are
 pub length-word : (n : ℕ) → length (wordBytes n) ≡ 2
@@ -155,9 +155,6 @@ module _ (bytes : List ℕ) (width i : ℕ) where
 
   pub word-record : (k : ℕ) → word bytes (recordAt bytes width i + k) ≡ word bytes (width * i + k)
   word-record = read-record (word bytes) (word-past bytes)
-
-  pub long-record : (k : ℕ) → long bytes (recordAt bytes width i + k) ≡ long bytes (width * i + k)
-  long-record = read-record (long bytes) (long-past bytes)
 
 -- of width 0 every record begins at the start
 pub record-none : (bytes : List ℕ) (i : ℕ) → recordAt bytes 0 i ≡ 0

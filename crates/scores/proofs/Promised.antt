@@ -16,10 +16,5 @@ seen-looked (Score s) = refl
 seen-looked Missing = refl
 seen-looked Over = refl
 
-pub looked-seen : (f : Found) → looked (seen f) ≡ f
-looked-seen (scaled v) = refl
-looked-seen absent = refl
-looked-seen tooHigh = refl
-
 pub looked-once : (x y : Slot) → looked x ≡ looked y → x ≡ y
 looked-once x y e = sym (seen-looked x) ∙ ap seen e ∙ seen-looked y

@@ -5,10 +5,9 @@ use mathlib.Core.Bool.{Bool, true, false, _&&_}
 use mathlib.Core.List.{List, [], _∷_, map}
 use lib.ListN.{length, replicate}
 use Rattle.paper.specs.Words.{_=?_, if_then_else_}
-use Rattle.results.specs.Results.{Student}
 use Rattle.bestset.specs.Examples.{seven, eight, nine, eleven}
 use Rattle.curve.specs.Examples.{aged17}
-use Rattle.worked.specs.Example.{_·_, Example, best-set_by_is_, figures_give_, rate_band_has_, aggregates_by_of_get_leaving_}
+use Rattle.worked.specs.Example.{Example, best-set_by_is_, figures_give_, rate_band_has_, aggregates_by_of_get_leaving_}
 use Rattle.worked.specs.Worked.{six, examples}
 
 -- what an example asks: the best set of results; Y and r of ten figures; of a rate the entry of a band; of Y the bands of aggregates
