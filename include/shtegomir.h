@@ -12,6 +12,11 @@
  * All memory is the caller's, before, during and after a call. Nothing is kept, nothing is allocated, and there is no state: calls
  * over different buffers may run at once. Numbers in bytes are big-endian; arrays of numbers are the machine's own.
  *
+ * A buffer that has more room than a call asks is lent with the length that is asked, not with that of its room.
+ *
+ * Of a struct that is returned only the numbers are said: the bytes between and behind them may hold anything. Compare structs number by
+ * number, never by memcmp or by a hash of their bytes.
+ *
  * Link with libshtegomir.a, for x86-64 Linux.
  */
 #ifndef SHTEGOMIR_H
@@ -181,7 +186,9 @@ struct shtegomir_text {
  *   text  lent to be written, 65536 bytes: the listing stands in front, every line ended by a line feed, without a 0 at the end;
  *         the rest is as it was. Every listing fits.
  *
- * A file that is refused is an accepted call: its text is the line `refused`, number, place.
+ * A file that is refused is an accepted call: `refusal` 0 says only that a text was written. The text of a refused file begins with
+ * `refused`, and is that line alone: `refused`, number, place. Every other text begins with `cohort`. A student who is refused has such a
+ * line too, behind the id, and refuses nobody else.
  *
  * Refused, at a place:
  *   11  text not of 65536 bytes: 0
