@@ -35,6 +35,11 @@ pub generals : best (result 0 letterC 50 (result 1 letterB 50 (three (result 8 l
 unfolding slots first word inTurn outside found slotOf onesFrom sumOver countOver scoreFound score usable usableAt showsEnglish kept wrong unscored repeated admissible earlier chosen
 generals = refl
 
+-- the same with the catalogue's last first: the positions are those of the results
+pub other-order : best (result 8 letterB 50 (result 0 letterC 50 (result 1 letterB 50 (three [])))) ≡ gives 25000 31
+unfolding slots first word inTurn outside found slotOf onesFrom sumOver countOver scoreFound score usable usableAt showsEnglish kept wrong unscored repeated admissible earlier chosen
+other-order = refl
+
 -- English 10, and five better Generals: it needn't be in the five
 pub outside-five : best english10 ≡ gives 25000 62
 unfolding slots first word inTurn outside found slotOf onesFrom sumOver countOver scoreFound score usable usableAt showsEnglish kept wrong unscored repeated admissible earlier chosen

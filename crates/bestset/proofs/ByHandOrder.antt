@@ -30,12 +30,13 @@ pub lengths : (ruling (student [] 2021 []) [] ≡ refused (7 at 0)) × (ruling (
 unfolding first word outside inTurn repeated usableAt showsEnglish usable
 lengths = (refl, refl, refl, refl, refl, refl, refl, refl)
 
--- the assessment year, 1984 to 9999; before the results' 1 and 2
+-- the assessment year, 1984 to 9999, and not 65536 + 2021; before the results' 1 and 2
 pub assessment-years : (ruling (student [] 0 []) [] ≡ refused (14 at 0)) × (ruling (student [] 1983 []) [] ≡ refused (14 at 0)) × (ruling (student [] 1984 []) [] ≡ refused (7 at 0))
     × (ruling (student [] 9999 []) [] ≡ refused (7 at 0)) × (ruling (student [] 10000 []) [] ≡ refused (14 at 0)) × (ruling (student [] 65535 []) [] ≡ refused (14 at 0))
     × (ruling (student [] 10000 (0 ∷ [])) [] ≡ refused (14 at 0)) × (ruling (student [] 1983 (replicate 102 0)) [] ≡ refused (14 at 0))
+    × (ruling (student [] 67557 []) [] ≡ refused (14 at 0))
 unfolding first word outside inTurn repeated usableAt showsEnglish usable
-assessment-years = (refl, refl, refl, refl, refl, refl, refl, refl)
+assessment-years = (refl, refl, refl, refl, refl, refl, refl, refl, refl)
 
 -- results not whole, at the number of whole ones; over 16 of them; 16 are taken, of subjects that are not in the catalogue
 pub result-bytes : (ruling (student [] 2021 (replicate 1 0)) [] ≡ refused (1 at 0)) × (ruling (student [] 2021 (replicate 5 0)) [] ≡ refused (1 at 0)) × (ruling (student [] 2021 (replicate 6 0)) [] ≡ refused (3 at 0))
@@ -95,14 +96,15 @@ pub five-before-six : (in2021 (slotless (slotless [])) ≡ refused (5 at 0)) × 
 unfolding first word outside inTurn repeated usableAt showsEnglish usable wrong unscored scoreFound found slotOf
 five-before-six = (refl, refl, refl)
 
--- 6: two usable results of one subject and year, the later one, and of two such the lower; another year or subject, a short course, VET with N, 2016 are none
+-- 6: two usable results of one subject and year, the later one, and of two such the lower; another year or subject, be its entry the same, a short course, VET with N, 2016 are none
 pub twice : (in2021 (good (good [])) ≡ refused (6 at 1)) × (in2021 (good (took 1 letterC 1 2021 (took 1 letterC 2 2021 (good [])))) ≡ refused (6 at 2)) × (in2021 (good (took 0 letterC 1 2020 [])) ≡ accepted tt)
     × (in2021 (good (took 1 letterC 1 2021 [])) ≡ accepted tt) × (in2021 (good (took 3 letterC 0 2021 (took 3 letterC 0 2021 []))) ≡ accepted tt)
     × (in2021 (good (took 2 letterN 0 2021 (took 2 letterN 0 2021 []))) ≡ accepted tt) × (in2021 (good (took 1 letterC 1 2016 (took 1 letterC 1 2016 []))) ≡ accepted tt)
     × (in2021 (good (took 1 letterC 1 2017 (took 1 letterC 1 2017 []))) ≡ refused (6 at 2)) × (in2021 (good (took 2 letterY 0 2021 (took 2 letterY 0 2021 []))) ≡ refused (6 at 2))
     × (in2021 (good (took 2 letterY 0 2021 (took 2 letterN 0 2021 []))) ≡ accepted tt) × (in2021 (good (took 2 letterN 0 2021 (took 2 letterY 0 2021 []))) ≡ accepted tt)
+    × (ruling (student (biology 2) 2021 (took 0 letterC 1 2021 (took 1 letterC 1 2021 []))) (replicate 400 0) ≡ refused (7 at 0))
 unfolding first word outside inTurn repeated usableAt showsEnglish usable wrong unscored scoreFound found slotOf
-twice = (refl, refl, refl, refl, refl, refl, refl, refl, refl, refl, refl)
+twice = (refl, refl, refl, refl, refl, refl, refl, refl, refl, refl, refl, refl)
 
 -- 6 before 7; and a student without English is well-formed
 pub six-before-seven : (in2021 (took 0 letterD 1 2021 (took 0 letterD 1 2021 [])) ≡ refused (6 at 1)) × (in2021 (took 0 letterD 1 2021 []) ≡ refused (7 at 0)) × (in2021 (took 1 letterA 1 2021 []) ≡ refused (7 at 0))

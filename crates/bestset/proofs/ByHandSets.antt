@@ -212,6 +212,13 @@ pub zeros : computed seven (replicate 1400 0) ≡ gives 0 79
 unfolding first word inTurn outside found slotOf onesFrom sumOver countOver scoreFound score usable usableAt showsEnglish kept wrong unscored repeated admissible earlier chosen
 zeros = refl
 
+-- five of them, with English at 87.38 and the others at 84.81: their sum to the hundredth
+pub hundredths : computed (student tied 2021 (dated 0 letterC 1 2021 (dated 1 letterC 1 2021 (dated 2 letterC 1 2021 (dated 3 letterC 1 2021 (dated 6 letterC 1 2021 []))))))
+    (replicate 200 34 ++ replicate 1200 33)
+    ≡ gives 42662 31
+unfolding first word inTurn outside found slotOf onesFrom sumOver countOver scoreFound score usable usableAt showsEnglish kept wrong unscored repeated admissible earlier chosen
+hundredths = refl
+
 -- 7 before 8; 8 with English alone
 pub seven-before-eight : (computed (student tied 2021 (dated 1 letterC 1 2021 [])) (replicate 1400 0) ≡ refused (7 at 0)) × (computed (student tied 2021 (dated 0 letterC 1 2021 [])) (replicate 1400 0) ≡ refused (8 at 0))
 unfolding first word inTurn outside found slotOf onesFrom sumOver countOver scoreFound score usable usableAt showsEnglish kept wrong unscored repeated admissible earlier chosen

@@ -53,7 +53,7 @@ pub english : (bytes (λ s. passes 2021 (made 1 s 0 letterA 2021)) ≡ 1 ∷ [])
 unfolding usable
 english = (refl, refl, refl, refl)
 
--- subjects of a small catalogue: English, its external examination, a Certificate III, a short course
+-- subjects of a small catalogue: English, its external examination, a Certificate III, a short course, another Certificate III
 abbrev pub general : ℕ
 general = 0
 
@@ -66,8 +66,11 @@ certificate = 2
 abbrev pub short : ℕ
 short = 3
 
+abbrev pub another : ℕ
+another = 4
+
 abbrev pub in2021 : List ℕ → Student
-in2021 results = student (1 ∷ 1 ∷ 0 ∷ 0 ∷ 7 ∷ 3 ∷ 0 ∷ 0 ∷ 0 ∷ 7 ∷ 6 ∷ 0 ∷ 3 ∷ 0 ∷ 0 ∷ 5 ∷ 0 ∷ 0 ∷ 0 ∷ 0 ∷ []) 2021 results
+in2021 results = student (1 ∷ 1 ∷ 0 ∷ 0 ∷ 7 ∷ 3 ∷ 0 ∷ 0 ∷ 0 ∷ 7 ∷ 6 ∷ 0 ∷ 3 ∷ 0 ∷ 0 ∷ 5 ∷ 0 ∷ 0 ∷ 0 ∷ 0 ∷ 6 ∷ 0 ∷ 3 ∷ 0 ∷ 0 ∷ []) 2021 results
 
 -- subject, letter, year, and more
 abbrev pub took : ℕ → ℕ → ℕ → List ℕ → List ℕ
@@ -93,8 +96,10 @@ unfolding usable usableAt kept first word
 kept-latest = (refl, refl, refl, refl, refl, refl)
 
 -- a later result that is not usable does not replace it: VET with N, or a year past the assessment year; nor does one of another subject, be it its external examination
+-- or its entry the same
 pub kept-still : (keeps (took certificate letterY 2020 (took certificate letterN 2021 [])) ≡ 0 ∷ []) × (keeps (took certificate letterN 2020 (took certificate letterY 2021 [])) ≡ 1 ∷ [])
     × (keeps (took certificate letterY 2020 (took certificate letterY 2021 [])) ≡ 1 ∷ []) × (keeps (took general letterA 2021 (took general letterA 2022 [])) ≡ 0 ∷ [])
     × (keeps (took general letterA 2020 (took examination letterA 2021 [])) ≡ 0 ∷ 1 ∷ []) × (keeps (took short letterA 2020 (took general letterA 2020 (took short letterA 2021 []))) ≡ 1 ∷ [])
+    × (keeps (took certificate letterY 2020 (took another letterY 2021 [])) ≡ 0 ∷ 1 ∷ [])
 unfolding usable usableAt kept first word
-kept-still = (refl, refl, refl, refl, refl, refl)
+kept-still = (refl, refl, refl, refl, refl, refl, refl)

@@ -25,9 +25,9 @@ pub scores : (found table 0 1 ≡ scaled 10000) × (found table 0 2 ≡ tooHigh)
 unfolding found word
 scores = (refl, refl, refl, refl, refl, refl, refl, refl)
 
--- the first row cleared; 2.58 stored in the second, the higher byte first; no row 2, no slots 0 and 101
+-- the first row cleared; 2.58 stored in the second, the higher byte first; no row 2, no slots 0 and 101; what is stored is not judged
 pub filling : (found (cleared table 0) 0 1 ≡ absent) × (found (cleared table 0) 0 100 ≡ absent) × (found (cleared table 0) 1 100 ≡ scaled 9999) × (cleared table 2 ≡ table)
     × (found (stored table 1 1 258) 1 1 ≡ scaled 258) × (byte (stored table 1 1 258) 200 ≡ 1) × (byte (stored table 1 1 258) 201 ≡ 2) × (found (stored table 1 1 258) 0 1 ≡ scaled 10000)
-    × (stored table 2 1 258 ≡ table) × (stored table 0 0 258 ≡ table) × (stored table 0 101 258 ≡ table)
+    × (stored table 2 1 258 ≡ table) × (stored table 0 0 258 ≡ table) × (stored table 0 101 258 ≡ table) × (found (stored table 1 1 10001) 1 1 ≡ tooHigh)
 unfolding found word cleared stored put laid wordBytes
-filling = (refl, refl, refl, refl, refl, refl, refl, refl, refl, refl, refl)
+filling = (refl, refl, refl, refl, refl, refl, refl, refl, refl, refl, refl, refl)
