@@ -77,10 +77,11 @@ pub edges : (ruling (replicate 512 0) full 0 (replicate 512 0) ≡ refused (9 at
 unfolding full
 edges = (refl, simp (full-within, places-over .1) refl, refl, refl)
 
--- nobody is accepted, with remainder 0; but Y is still tested
-pub nobody : (ruling [] full 1 [] ≡ accepted 0) × (ruling [] full 0 [] ≡ refused (9 at 0))
+-- nobody is accepted, with remainder 0; but Y is still tested, the lent lengths before it, and the entries after it
+pub nobody : (ruling [] full 1 [] ≡ accepted 0) × (ruling [] full 0 [] ≡ refused (9 at 0)) × (ruling [] [] 1 [] ≡ refused (11 at 0)) × (ruling [] full 1 (0 ∷ []) ≡ refused (11 at 0))
+    × (ruling [] faulty 1 [] ≡ refused (13 at 3))
 unfolding full remainder count sum
-nobody = (rw (full-within, within .2) refl, refl)
+nobody = (rw (full-within, within .2) refl, refl, refl, refl, simp (places-over .0) refl)
 
 -- by tally: over 100000 students; no counts
 pub too-many : (aggregates table : List ℕ) (Y : ℕ) (before : Lent) → mostTallied < length aggregates → tallyRuling aggregates table Y before ≡ refused (2 at mostTallied)

@@ -22,22 +22,23 @@ pub limits : (says (sizeRules 512 512 2000 512) ≡ clear) × (says (sizeRules 5
     × (says (sizeRules 100000 100001 2000 100001) ≡ refused (2 at 100000)) × (says (sizeRules 512 513 1999 513) ≡ refused (2 at 512)) × (says (sizeRules 512 513 2000 512) ≡ refused (2 at 512))
 limits = (refl, refl, refl, refl, refl, refl)
 
--- 11: the table one entry short and one too long, the bands likewise, the counts likewise
+-- 11: the table one entry short and one too long, the bands likewise, of nobody too; the counts likewise
 pub lengths : (says (sizeRules 512 3 1999 3) ≡ refused (11 at 0)) × (says (sizeRules 512 3 2001 3) ≡ refused (11 at 0)) × (says (sizeRules 512 3 2000 2) ≡ refused (11 at 0))
     × (says (sizeRules 512 3 2000 4) ≡ refused (11 at 0)) × (says (sizeRules 512 0 2000 0) ≡ clear)
+    × (says (sizeRules 512 0 1999 0) ≡ refused (11 at 0)) × (says (sizeRules 512 0 2001 0) ≡ refused (11 at 0)) × (says (sizeRules 512 0 2000 1) ≡ refused (11 at 0))
     × (says (countsRule 50000 ∷ []) ≡ refused (11 at 0)) × (says (countsRule 50001 ∷ []) ≡ clear) × (says (countsRule 50002 ∷ []) ≡ refused (11 at 0))
-lengths = (refl, refl, refl, refl, refl, refl, refl, refl)
+lengths = (refl, refl, refl, refl, refl, refl, refl, refl, refl, refl, refl)
 
 -- 9, for bands at 0: Y zero; Y over 1000000
 pub populations : (says (tableRules [] 0) ≡ refused (9 at 0)) × (says (tableRules [] 1) ≡ clear) × (says (tableRules [] 1000000) ≡ clear) × (says (tableRules [] 1000001) ≡ refused (9 at 0))
 unfolding first
 populations = (refl, refl, refl, refl)
 
--- 13: a participation entry over 1000000, at its index, the lowest first
+-- 13: a participation entry over 1000000, at its index, the lowest first; the table needn't rise
 pub entries : (says (tableRules (0 ∷ 1000000 ∷ []) 1) ≡ clear) × (says (tableRules (1000001 ∷ 0 ∷ []) 1) ≡ refused (13 at 0)) × (says (tableRules (0 ∷ 1000001 ∷ []) 1) ≡ refused (13 at 1))
-    × (says (tableRules (0 ∷ 1000001 ∷ 4294967295 ∷ []) 1) ≡ refused (13 at 1))
+    × (says (tableRules (0 ∷ 1000001 ∷ 4294967295 ∷ []) 1) ≡ refused (13 at 1)) × (says (tableRules (1000000 ∷ 1000000 ∷ 0 ∷ []) 1) ≡ clear)
 unfolding first
-entries = (refl, refl, refl, refl)
+entries = (refl, refl, refl, refl, refl)
 
 -- 12: an aggregate over 50000, at its index, the lowest first
 pub aggregates : (says (aggregateRules (50000 ∷ 0 ∷ [])) ≡ clear) × (says (aggregateRules (50001 ∷ 0 ∷ [])) ≡ refused (12 at 0)) × (says (aggregateRules (0 ∷ 50001 ∷ [])) ≡ refused (12 at 1))
@@ -84,7 +85,9 @@ unfolding full
 tally-order counts l =
     (rw l refl, rw l refl, simp (l, places-over .0, places-over .1) refl, simp (l, full-within, places-over .1) refl, simp (l, full-within, places-over .1) refl)
 
--- nobody is accepted, with remainder 0; but Y is still tested
+-- nobody is accepted, with remainder 0; but Y is still tested, the lent lengths before it, and the entries after it
 pub tally-nobody : (counts : List ℕ) → length counts ≡ 50001 → (tallyRuling [] full 1 (lent [] counts) ≡ accepted 0) × (tallyRuling [] full 0 (lent [] counts) ≡ refused (9 at 0))
+    × (tallyRuling [] [] 1 (lent [] counts) ≡ refused (11 at 0)) × (tallyRuling [] full 1 (lent (0 ∷ []) counts) ≡ refused (11 at 0)) × (tallyRuling [] full 1 (lent [] []) ≡ refused (11 at 0))
+    × (tallyRuling [] faulty 1 (lent [] counts) ≡ refused (13 at 3))
 unfolding full remainder count sum
-tally-nobody counts l = (rw (l, full-within, within .2) refl, rw l refl)
+tally-nobody counts l = (rw (l, full-within, within .2) refl, rw l refl, refl, refl, refl, simp (l, places-over .0) refl)

@@ -2,15 +2,17 @@
 use Prim.Native.Nat.{ℕ, _≤_}
 use native.Mathlib.Omega.{arith}
 use mathlib.Core.Path.{_≡_, refl, ap}
+use mathlib.Core.Bool.{false}
 use mathlib.Core.List.{List, _∷_, _++_}
-use lib.ListN.{length}
-use borrow.Author.Tests.{ltb-false, eqb-true, not-false}
+use lib.ListN.{length, getD}
+use borrow.Author.Tests.{ltb-false, le-ltb, eqb-true, eq-eqb, not-false}
 use Rattle.paper.specs.Limits.{mostAggregate, mostPopulation, bandCount, mostEntry, mostStudents, mostTallied, tallyCount}
 use Rattle.paper.specs.Promises.{Tells, Owes}
 use Rattle.paper.proofs.Promised as every
-use Rattle.paper.specs.Lists.{firstOver}
-use Rattle.paper.proofs.Firsts.{none-over}
-use Rattle.paper.proofs.Ranging.{within-true}
+use Rattle.paper.specs.Lists.{over, firstOver, someOver}
+use Rattle.paper.specs.Rulings.{accepted}
+use Rattle.paper.proofs.Firsts.{none-over, none-has}
+use Rattle.paper.proofs.Ranging.{within-true, true-within}
 use Rattle.paper.proofs.Ruled.{refusal-fault, Unbroken, unbroken-parts, Tabled, tabled}
 use Rattle.tally.specs.Counts.{tallyOf}
 use Rattle.tally.proofs.Tallies.{tally-exists, tally-once}
@@ -102,3 +104,33 @@ pub tally-ready : (aggregates table : List ℕ) (Y : ℕ) (bands counts : List �
 tally-ready aggregates table Y bands counts h =
     let k = unbroken-parts (sizeRules mostTallied (length aggregates) (length table) (length bands)) (countsRule (length counts) ∷ tableRules table Y ++ aggregateRules aggregates) h in
     record { ready = ready mostTallied aggregates table Y bands (omega arith) (k .0) (k .1 .1); long = eqb-true (length counts) tallyCount (not-false _ (k .1 .0)) }
+
+-- and what no rule refuses is accepted, whatever the table's entries are: it needn't rise
+all-within : (limit : ℕ) (xs : List ℕ) → ((i : ℕ) → getD xs i 0 ≤ limit) → someOver limit xs ≡ false
+all-within limit xs h = none-has (length xs) (over limit xs) (λ i l. le-ltb _ _ (h i))
+
+pub accepts : (aggregates table : List ℕ) (Y : ℕ) (bands : List ℕ) → Ready aggregates table Y bands → length aggregates ≤ mostStudents → 1 ≤ Y
+    → ruling aggregates table Y bands ≡ accepted (remainder aggregates table Y)
+accepts aggregates table Y bands r few some =
+    rw (
+      le-ltb mostStudents (length aggregates) few,
+      eq-eqb (length table) bandCount (r .sized .long),
+      eq-eqb (length bands) (length aggregates) (r .lent),
+      true-within 1 mostPopulation Y some (r .people),
+      all-within mostEntry table (r .sized .each),
+      all-within mostAggregate aggregates (r .students .each),
+    ) refl
+
+pub tally-accepts : (aggregates table : List ℕ) (Y : ℕ) (bands counts : List ℕ) → TallyReady aggregates table Y bands counts → 1 ≤ Y
+    → tallyRuling aggregates table Y (lent bands counts) ≡ accepted (remainder aggregates table Y)
+tally-accepts aggregates table Y bands counts t some =
+    let r = t .ready in
+    rw (
+      le-ltb mostTallied (length aggregates) (r .students .few),
+      eq-eqb (length table) bandCount (r .sized .long),
+      eq-eqb (length bands) (length aggregates) (r .lent),
+      eq-eqb (length counts) tallyCount (t .long),
+      true-within 1 mostPopulation Y some (r .people),
+      all-within mostEntry table (r .sized .each),
+      all-within mostAggregate aggregates (r .students .each),
+    ) refl

@@ -40,6 +40,11 @@ pub of-ages : (populationRuling five ≡ gives 365 4521) × (populationRuling (a
 unfolding sum first S E nearest
 of-ages = (refl, refl, refl, refl, refl)
 
+-- E of an age may be over its Q: 1200/30 is 40, and 300000/40 is 7500
+pub over-Q : populationRuling (aged17and18 10 20 100 10) ≡ gives 40 7500
+unfolding sum first S E nearest
+over-Q = refl
+
 -- Y to the nearest whole, halves up: 200.49, 200.50 and 200.51; and 0.49, which is zero
 pub Y-halves : (populationRuling (aged17and18 200 51 201 49) ≡ gives 200 5000) × (populationRuling (aged17and18 200 50 201 50) ≡ gives 201 4975)
     × (populationRuling (aged17and18 200 49 201 51) ≡ gives 201 4975) × (populationRuling (aged17and18 1 49 0 51) ≡ refused (9 at 10))
