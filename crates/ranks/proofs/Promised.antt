@@ -4,7 +4,10 @@ use native.Mathlib.Omega.{arith}
 use mathlib.Core.Path.{_≡_, refl, ap, _∙_}
 use mathlib.Core.List.{List}
 use lib.ListN.{length, getD}
+use borrow.Author.Tests.{le-ltb, eq-eqb}
+use Rattle.paper.specs.Limits.{mostValues}
 use Rattle.paper.specs.Lists.{listed}
+use Rattle.paper.specs.Rulings.{accepted}
 use Rattle.paper.specs.Promises.{Tells, Owes}
 use Rattle.paper.proofs.Listing.{length-listed, at-list, is-listed}
 use Rattle.paper.proofs.Promised as every
@@ -59,6 +62,11 @@ module _ (values : List ℕ) (before : Lent) where
   -- two permitted results are equal
   pub determined : {r s : Answer} {b c : Lent} → Promise values before r b → Promise values before s c → (r ≡ s) × (b ≡ c)
   determined = every.determined tells every.rules-is (owes values before)
+
+-- what no rule refuses is accepted, whatever the values
+pub accepts : (values : List ℕ) (before : Lent) → length values ≤ mostValues → length (before .ranks) ≡ length values → length (before .percentiles) ≡ length values
+    → ruling values before ≡ accepted tt
+accepts values before few r p = rw (le-ltb mostValues (length values) few, eq-eqb (length (before .ranks)) (length values) r, eq-eqb (length (before .percentiles)) (length values) p) refl
 
 -- ranks counted in a list of the same counts
 module _ (values xs ranks : List ℕ) (s : SameCounts values xs) (e : ranks ≡ listed 0 (length values) (λ i. atMost xs (getD values i 0))) where
