@@ -31,9 +31,22 @@ held = record {
   students = enrolled 260 ∷ enrolled 16777220 ∷ [];
 }
 
--- a field of a tag and a value is judged
+-- or a subject of each kind, of which the last has 50.00 in slot 1
+abbrev ofEachKind : Held
+ofEachKind = record {
+  year = 2021;
+  catalogue = 1 ∷ 1 ∷ 0 ∷ 0 ∷ 9 ∷ 2 ∷ 0 ∷ 0 ∷ 0 ∷ 0 ∷ 3 ∷ 0 ∷ 0 ∷ 0 ∷ 9 ∷ 4 ∷ 2 ∷ 0 ∷ 0 ∷ 0 ∷ 5 ∷ 0 ∷ 0 ∷ 0 ∷ 0 ∷ 6 ∷ 0 ∷ 3 ∷ 0 ∷ 0 ∷ [];
+  table = stored (replicate 1200 255) 5 1 5000;
+  figures = [];
+  students = [];
+}
+
+-- a field of a tag and a value is judged, by what is held
+abbrev judgedBy : Held → ℕ → List ℕ → Outcome (Unit {0})
+judgedBy held tag v = judged (valueRules held (record { tag = tag; value = v }) 8) tt
+
 abbrev judgedAs : ℕ → List ℕ → Outcome (Unit {0})
-judgedAs tag v = judged (valueRules held (record { tag = tag; value = v }) 8) tt
+judgedAs = judgedBy held
 
 abbrev good : Outcome (Unit {0})
 good = accepted tt
@@ -96,6 +109,14 @@ pub identities :
 unfolding word wordBytes outside
 identities = (refl, refl, refl, refl, refl, refl, refl, refl)
 
+-- an entry that stands in the catalogue already breaks no rule, of whatever kind
+abbrev again : ℕ → ℕ → ℕ → ℕ → Outcome (Unit {0})
+again kind strand level identity = judgedBy ofEachKind 2 (kind ∷ strand ∷ level ∷ wordBytes identity)
+
+pub entries-again : (again 1 1 0 9 ≡ good) × (again 2 0 0 0 ≡ good) × (again 3 0 0 9 ≡ good) × (again 4 2 0 0 ≡ good) × (again 5 0 0 0 ≡ good) × (again 6 0 3 0 ≡ good)
+unfolding word wordBytes outside
+entries-again = (refl, refl, refl, refl, refl, refl)
+
 -- a score: subject, slot, value
 abbrev score : ℕ → ℕ → ℕ → Outcome (Unit {0})
 score subject slot value = judgedAs 3 (wordBytes subject ++ (slot ∷ wordBytes value))
@@ -109,6 +130,14 @@ subjects = (refl, refl, refl, refl)
 pub slots : (score 0 0 5000 ≡ refuses 5) × (score 0 1 5000 ≡ good) × (score 0 100 5000 ≡ good) × (score 0 101 5000 ≡ refuses 5) × (score 0 255 5000 ≡ refuses 5)
 unfolding word wordBytes found stored laid
 slots = (refl, refl, refl, refl, refl)
+
+-- of whatever kind the subject is: a slot that its results never use breaks no rule, nor a score after those of a later subject
+abbrev unused : ℕ → ℕ → Outcome (Unit {0})
+unused subject slot = judgedBy ofEachKind 3 (wordBytes subject ++ (slot ∷ wordBytes 5000))
+
+pub slots-of-each-kind : (unused 0 1 ≡ good) × (unused 1 1 ≡ good) × (unused 2 1 ≡ good) × (unused 3 40 ≡ good) × (unused 4 1 ≡ good) × (unused 5 2 ≡ good)
+unfolding word wordBytes found stored laid
+slots-of-each-kind = (refl, refl, refl, refl, refl, refl)
 
 -- 5: a value over 10000; one that says missing too
 pub values : (score 0 1 0 ≡ good) × (score 0 1 10000 ≡ good) × (score 0 1 10001 ≡ refuses 5) × (score 0 1 65535 ≡ refuses 5)
