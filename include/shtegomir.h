@@ -29,7 +29,7 @@
 extern "C" {
 #endif
 
-/* The numbers of refusals. */
+/* The numbers of refusals, as a call means them. docs/OFFICE.md has beside it what each means in a file and for a student. */
 enum shtegomir_refusal {
     SHTEGOMIR_ACCEPTED = 0,
     SHTEGOMIR_MALFORMED = 1,        /* bytes that are not whole entries or results */
