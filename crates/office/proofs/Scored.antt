@@ -6,10 +6,9 @@ use mathlib.Core.Bool.{true, not}
 use mathlib.Core.List.{List, [], _∷_, _++_, append-assoc}
 use lib.ListN.{length, length-append}
 use lib.Seq.{take-append-seam, drop-append-add, getD-append-add}
-use borrow.Author.Tests.{lt-leb, lt-ltb, le-ltb}
+use borrow.Author.Tests.{lt-ltb}
 use Rattle.paper.specs.Limits.{rowBytes, slots as slotCount, topScore, missing}
 use Rattle.paper.specs.Ranges.{within}
-use Rattle.paper.specs.Words.{_≤?_, _<?_}
 use Rattle.paper.specs.Bytes.{byte, word, wordBytes}
 use Rattle.paper.specs.Parts.{laid}
 use Rattle.paper.specs.Rulings.{accepted}
@@ -23,7 +22,7 @@ use Rattle.scores.proofs.Filling.{found-there}
 use Rattle.scores.proofs.Rowed.{stored-slot}
 use Rattle.bestset.specs.Examples.{slots}
 use Rattle.fields.specs.Fields.{Field, Piece, whole}
-use Rattle.cohort.specs.Judging.{given}
+use Rattle.cohort.proofs.Accepts.{score-accepted}
 use Rattle.cohort.specs.Reading.{Reader, passed, fieldRules, after, readAll}
 
 -- subject, slot, score: the value of a field, and the field
@@ -98,16 +97,7 @@ module _ (year : ℕ) (catalogue : List ℕ) where
               ap not l,
               (
                 refl,
-                (
-                  ap (λ (w : ℕ). subjects catalogue ≤? w) subject-is ∙ lt-leb (subjects catalogue) subject known,
-                  (
-                    ap not (true-within 1 slotCount slot low high),
-                    (
-                      ap (λ (w : ℕ). topScore <? w) score-is ∙ le-ltb topScore v top,
-                      (ap (λ (w : ℕ). given (found table w slot)) subject-is ∙ ap given unscored, tt),
-                    ),
-                  ),
-                ),
+                score-accepted (at last table .held) (value subject slot v) p (rw subject-is known) low high (rw score-is top) (rw subject-is unscored),
               ),
             ),
           ),

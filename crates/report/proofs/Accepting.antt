@@ -18,7 +18,7 @@ use Rattle.curve.specs.Meaning.{Curved}
 use Rattle.curve.proofs.Means.{curved}
 use Rattle.ranks.specs.Promise.{Lent, lent, ranked, ruling as ranksRuling, Promise as RanksPromise}
 use Rattle.ranks.specs.declared.Answer.{Answer as RanksAnswer}
-use Rattle.ranks.proofs.Promised.{ranked-is}
+use Rattle.ranks.proofs.Promised.{ranked-is, accepts}
 use Rattle.bands.specs.Placing.{remainder}
 use Rattle.bands.specs.Bands.{bandsOf}
 use Rattle.bands.specs.Promise.{ruling as bandsRuling, Promise as BandsPromise}
@@ -55,7 +55,7 @@ module _ (rate population : ℕ) (aggregates : List ℕ) (p : Cohort aggregates 
   pub ranks-accept : (ranks percentiles : List ℕ) → length ranks ≡ length aggregates → length percentiles ≡ length aggregates → ranksRuling aggregates (lent ranks percentiles) ≡ accepted tt
   ranks-accept ranks percentiles a b =
       let few : length aggregates ≤ mostValues = omega (arith, p .few) in
-      rw (le-ltb mostValues (length aggregates) few, eq-eqb (length ranks) (length aggregates) a, eq-eqb (length percentiles) (length aggregates) b) refl
+      accepts aggregates (lent ranks percentiles) few a b
 
   pub bands-accept : (bands : List ℕ) → length bands ≡ length aggregates → bandsRuling aggregates (tableOf rate) population bands ≡ accepted (remainder aggregates (tableOf rate) population)
   bands-accept bands b =

@@ -53,6 +53,11 @@ pub eligible : aggregatesOf outcomes five ≡ three
 unfolding aggregatesOf
 eligible = refl
 
+-- an aggregate of 0 is one too
+pub zero-eligible : aggregatesOf (λ s. gets 0) (enrolled 9 ∷ []) ≡ 0 ∷ []
+unfolding aggregatesOf
+zero-eligible = refl
+
 -- a line per student in file order: id, aggregate, rank, percentile, ATAR; or id, refused, number, place. A refused student takes nobody's place
 pub each-line :
     linesOf outcomes (columns three (3 ∷ 2 ∷ 1 ∷ []) (100000 ∷ 66667 ∷ 5 ∷ []) (1949 ∷ 1849 ∷ 601 ∷ [])) 0 five
