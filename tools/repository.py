@@ -11,6 +11,7 @@ ROOT = os.path.dirname(os.path.dirname(os.path.abspath(__file__)))
 # What a log's first error says where a proof no longer fits the code, so that no fact was refused.
 SHAPE = re.compile(
     r"has no `Need-|that can be named from here|is not in scope|components but its type has|record `[^`]*\.Lts[^`]*` has no field"
+    r"|(?s:one has `[^`\s]*\.Lts\.PLACE`\s+\(expected\).{0,300}?the other has `[^`\s]*\.Lts\.PLACE`)".replace("PLACE", r"(?:After|Then|Else|At|Start)[\w-]*")
 )
 
 
