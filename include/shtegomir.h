@@ -34,7 +34,7 @@ enum shtegomir_refusal {
     SHTEGOMIR_ACCEPTED = 0,
     SHTEGOMIR_MALFORMED = 1,        /* bytes that are not whole entries or results */
     SHTEGOMIR_TOO_MANY = 2,         /* more subjects, results, students or values than the call takes */
-    SHTEGOMIR_WRONG_SUBJECT = 3,    /* a catalogue entry outside its ranges, or a subject not in the catalogue */
+    SHTEGOMIR_WRONG_SUBJECT = 3,    /* a catalogue entry or kind outside its range, or a subject not in the catalogue or without a row */
     SHTEGOMIR_WRONG_RESULT = 4,     /* a letter, number or year wrong for the kind */
     SHTEGOMIR_WRONG_SCORE = 5,      /* a usable result whose slot is missing or over 10000 */
     SHTEGOMIR_AGAIN = 6,            /* two usable results of one subject and year */
@@ -42,10 +42,11 @@ enum shtegomir_refusal {
     SHTEGOMIR_NO_SET = 8,           /* no admissible set */
     SHTEGOMIR_WRONG_POPULATION = 9, /* a figure over 1000000, or a population that is zero or over 1000000 */
     SHTEGOMIR_WRONG_RATE = 10,      /* a participation rate outside 0.25 to 0.75 */
-    SHTEGOMIR_WRONG_LENGTH = 11,    /* a table or buffer of another length than asked, longer ones too */
+    SHTEGOMIR_WRONG_LENGTH = 11,    /* a table, a buffer or counts of another length than asked, longer ones too */
     SHTEGOMIR_WRONG_AGGREGATE = 12, /* an aggregate over 50000 */
     SHTEGOMIR_WRONG_ENTRY = 13,     /* a participation entry over 1000000 */
-    SHTEGOMIR_WRONG_YEAR = 14       /* an assessment year outside 1984 to 9999 */
+    SHTEGOMIR_WRONG_YEAR = 14,      /* an assessment year outside 1984 to 9999 */
+    SHTEGOMIR_WRONG_COUNT = 15      /* a count of students over 1000000, or a total over it */
 };
 
 /* ---- The best set of one student ---- */
@@ -96,6 +97,34 @@ struct shtegomir_best {
  */
 struct shtegomir_best shtegomir_best_set(const uint8_t *catalogue, size_t catalogue_len, const uint8_t *table, size_t table_len,
                                          uint32_t year, const uint8_t *results, size_t results_len);
+
+/* ---- First scaled scores of a subject ---- */
+
+/* Accepted: both are 0. */
+struct shtegomir_scored {
+    uint64_t refusal, place;
+};
+
+/* Writes a subject's row of the score table from the number of students at each raw result, and no other row.
+ *
+ *   kind     1 to 4 or 6, as in the catalogue
+ *   subject  its place in the catalogue, from 0: whose row is written
+ *   counts   kinds 1 to 3: 100, of the results 1 to 100 in this order; Applied: 5, of E, D, C, B, A in this order; VET: none, with a
+ *            length of 0, and still a pointer that is not NULL. Each count, and all together, at most 1000000
+ *   table    lent to be written, 200 bytes to a subject, as for the best set. The whole row is written, whatever it held, and the other
+ *            rows stay: fill a new table with bytes 255, all missing, before the first call
+ *
+ * The score of a result is 100 * (half the count at it + all counts below it) / (all counts), in hundredths, nearest, halves up: of
+ * Applied with 2, 1, 0, 4 and 1 students 12.50, 31.25, 37.50, 62.50 and 93.75. With no students at all every slot is missing. VET has
+ * 50.00 in slot 1. Slots of no result are missing.
+ *
+ * Refused, in this order, at a place:
+ *    3  a short course, a kind outside 1 to 6, or a table without the subject's row: 0
+ *   11  another number of counts than the kind asks, or table not of whole rows: 0
+ *   15  a count over 1000000: its index; then a total over it: 0
+ */
+struct shtegomir_scored shtegomir_first_scores(uint32_t kind, uint32_t subject, const uint32_t *counts, size_t counts_len,
+                                               uint8_t *table, size_t table_len);
 
 /* ---- The population and the participation curve ---- */
 

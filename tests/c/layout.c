@@ -55,6 +55,8 @@ AS_LONG(shtegomir_best, best, 24);
 AT(shtegomir_best, best, aggregate, uint32_t, 16);
 AT(shtegomir_best, best, set, uint16_t, 20);
 
+AS_LONG(shtegomir_scored, told, 16);
+
 AS_LONG(shtegomir_curve, curve, 24);
 AT(shtegomir_curve, curve, population, uint32_t, 16);
 AT(shtegomir_curve, curve, rate, uint32_t, 20);

@@ -135,14 +135,32 @@ static void put_text(const struct lent *lent, uint64_t length)
         }
 }
 
-/* The numbers that are returned, and of each buffer that was written the text, or its numbers. */
+/* The second row of a score table, by some slots; every other byte is as it was. */
+static void put_row(const struct lent *lent)
+{
+    static const int slots[] = {9, 10, 30, 50, 70, 90, 91};
+    const uint8_t *bytes = lent->at;
+    for (size_t i = 0; i < sizeof slots / sizeof *slots; i++) {
+        const uint8_t *slot = bytes + 200 + 2 * (slots[i] - 1);
+        put(" %d", 256 * slot[0] + slot[1]);
+    }
+    for (size_t i = 0; i < lent->length; i++)
+        if (i / 200 != 1 && bytes[i] != PATTERN) {
+            wrong("byte %zu was written, in another row", i);
+            return;
+        }
+}
+
+/* The numbers that are returned, and of each buffer that was written the row, the text, or its numbers. */
 static void render(const struct entry *e, const struct lent *lent, const struct answer *a)
 {
     gave[0] = 0;
     for (unsigned i = 0; i < e->numbers; i++)
         put(" %llu", (unsigned long long)a->number[i]);
     for (int i = 0; i < BUFFERS && e->buffer[i].name != NULL; i++)
-        if (e->buffer[i].holds == NULL && e->buffer[i].unit == 1)
+        if (e->buffer[i].holds == NULL && e->buffer[i].record == 200) /* only a score table is lent in such records */
+            put_row(&lent[i]);
+        else if (e->buffer[i].holds == NULL && e->buffer[i].unit == 1)
             put_text(&lent[i], a->number[0]);
         else if (e->buffer[i].holds == NULL)
             put_elements(&lent[i], e->buffer[i].unit);
@@ -187,6 +205,7 @@ static void attempt(const struct entry *e, const char *buffer, const char *what,
 enum { YEAR = 2021, POPULATION = 2000, SUBJECTS = 66, RESULTS = 18, MOST = 100001, FILE_MOST = 65537 };
 
 static uint8_t catalogue[5 * SUBJECTS], scores[200 * SUBJECTS], results[6 * RESULTS], file[FILE_MOST];
+static const uint32_t letters[6] = {2, 1, 0, 4, 1};
 static const uint32_t figures[11] = {0, 40, 0, 0, 0, 0, 20};
 static uint32_t values[MOST] = {35500, 36000, 35500}, aggregates[MOST] = {40000, 40000, 30000}, entries[2001];
 
@@ -194,6 +213,13 @@ static struct answer best_set(const struct lent *l)
 {
     struct shtegomir_best a = shtegomir_best_set(l[0].at, l[0].length, l[1].at, l[1].length, YEAR, l[2].at, l[2].length);
     return (struct answer){a.refusal, a.place, {a.aggregate, a.set}};
+}
+
+/* Applied, and the second subject. */
+static struct answer first_scores(const struct lent *l)
+{
+    struct shtegomir_scored a = shtegomir_first_scores(4, 1, l[0].at, l[0].length, l[1].at, l[1].length);
+    return (struct answer){a.refusal, a.place, {0, 0}};
 }
 
 static struct answer participation(const struct lent *l)
@@ -296,6 +322,12 @@ static const struct entry best_set_entry = {
      {"results", results, 1, 36, 6, .fewer = {8, 0, NULL}, .more = {0, 0, " 37500 79"}, .none = {7, 0, NULL}, .cut = {1, 5, NULL},
       .over = {1, 6, NULL}}}};
 
+static const struct entry scores_entry = {
+    "first scores", first_scores, 0, {0, 0, " 65535 1250 3125 3750 6250 9375 65535"},
+    {{"counts", letters, 4, 5, 1, ALL_LENGTH},
+     {"table", NULL, 1, 400, 200, .fewer = {3, 0, NULL}, .more = {0, 0, " 65535 1250 3125 3750 6250 9375 65535"}, .none = {3, 0, NULL},
+      .cut = {3, 0, NULL}, .over = LENGTH}}};
+
 static const struct entry participation_entry = {
     "participation", participation, 2, {0, 0, " 40 5000 0 to 999999"},
     {{"figures", figures, 4, 10, 1, ALL_LENGTH}, {"table", NULL, 4, 2000, 1, ALL_LENGTH}}};
@@ -323,7 +355,8 @@ static const struct entry report_entry = {
       .none = {0, 0, " 12 refused 1 0\n"}},
      {"text", NULL, 1, 65536, 1, ALL_LENGTH}}};
 
-static const struct entry *const every[] = {&best_set_entry, &participation_entry, &rank_entry, &direct_entry, &tally_entry, &report_entry};
+static const struct entry *const every[] = {&best_set_entry, &scores_entry, &participation_entry, &rank_entry,
+                                           &direct_entry, &tally_entry, &report_entry};
 
 /* Other lengths of several buffers at once. */
 static const struct {
@@ -341,6 +374,8 @@ static const struct {
     {&best_set_entry, "17 results and a byte", {35, 1400, 103}, {1, 17, NULL}},
     {&best_set_entry, "nothing at all", {0, 0, 0}, {7, 0, NULL}},
     {&best_set_entry, "a result without a subject", {0, 0, 6}, {3, 0, NULL}},
+    {&scores_entry, "no counts, and no row", {0, 200}, {3, 0, NULL}},
+    {&scores_entry, "a count more, and a byte more", {6, 401}, LENGTH},
     {&participation_entry, "nothing at all", {0, 0}, LENGTH},
     {&rank_entry, "two values", {2, 2, 2}, {0, 0, " 1 2 50000 100000"}},
     {&rank_entry, "nothing at all", {0, 0, 0}, {0, 0, ""}},

@@ -14,7 +14,7 @@
 #include "shtegomir.h"
 
 /* How many inputs of each entry for one seed: such that each refusal is met, the rarest about a dozen times. */
-enum { BEST_SETS = 50000, CURVES = 1500, RANKINGS = 5000, DIRECT = 5000, TALLIES = 500, REPORTS = 1000 };
+enum { SCORES = 5000, BEST_SETS = 50000, CURVES = 1500, RANKINGS = 5000, DIRECT = 5000, TALLIES = 500, REPORTS = 1000 };
 
 enum { BANDS = 2000, COUNTS = 50001, MOST = 100000, MILLION = 1000000, NUMBERS = REFUSALS };
 
@@ -274,6 +274,75 @@ static void compare_best_set(struct entry *e)
     print_bytes("catalogue", s.catalogue, s.catalogue_len);
     print_bytes("table", s.table, s.table_len);
     print_bytes("results", s.results, s.results_len);
+}
+
+/* ---- First scores ---- */
+
+enum { RESULTS_MOST = 102, ROWS = 66 };
+
+/* Of General, Applied and VET mostly; some of no kind. */
+static uint32_t some_kind(void)
+{
+    return chance(8) ? ONE_OF(0, 5, 7, 257, 260, 4294967295u) : ONE_OF(1, 1, 2, 3, 4, 4, 6);
+}
+
+/* Small and great, some nobody's, so that totals lie on both sides of the limit. */
+static void make_counts(uint32_t *counts)
+{
+    uint32_t limit = ONE_OF(1, 2, 10, 1000, 20000, 400000);
+    for (size_t i = 0; i < RESULTS_MOST; i++)
+        counts[i] = chance(20) ? 0 : below(limit);
+    if (chance(15))
+        memset(counts + 1, 0, (RESULTS_MOST - 1) * sizeof *counts);
+    if (chance(10))
+        counts[below(5)] = ONE_OF(999999, MILLION, MILLION + 1, 4294967295u);
+}
+
+/* What was met besides refusals: accepted calls of each kind, and a total over the limit. */
+static unsigned long scored[7], totals_over;
+
+static void note_scores(uint32_t kind, const struct shtegomir_scored *a, uint32_t first)
+{
+    if (a->refusal == 0 && kind <= 6)
+        scored[kind]++;
+    if (a->refusal == 15 && a->place == 0 && first <= MILLION)
+        totals_over++;
+}
+
+static int all_kinds(void)
+{
+    static const int kinds[] = {1, 2, 3, 4, 6};
+    int all = totals_over > 0;
+    printf("first scores by kind:");
+    for (size_t i = 0; i < sizeof kinds / sizeof *kinds; i++) {
+        printf(" %lu of kind %d,", scored[kinds[i]], kinds[i]);
+        all &= scored[kinds[i]] > 0;
+    }
+    printf(" %lu totals over 1000000%s\n", totals_over, all ? "" : "; not all that there are");
+    return all;
+}
+
+static void compare_scores(struct entry *e)
+{
+    static uint32_t counts[RESULTS_MOST];
+    static uint8_t table[ROW * ROWS + SPARE], other[ROW * ROWS + SPARE];
+    uint32_t kind = some_kind(), rows = chance(5) ? ROWS : from(0, 4), subject = rows == 0 || chance(8) ? ONE_OF(0, rows, rows + 1, 536870912u) : below(rows);
+    size_t count = kind >= 1 && kind <= 3 ? 100 : kind == 4 ? 5 : 0, length = ROW * rows;
+    make_counts(counts);
+    if (chance(8))
+        count = another(count);
+    if (chance(8))
+        length = another(length);
+    fill(table, other, length);
+    struct shtegomir_scored a = shtegomir_first_scores(kind, subject, counts, count, table, length);
+    struct second_scored b = second_first_scores(kind, subject, counts, count, other, length);
+    same_refusal(e, a.refusal, a.place, b.refusal, b.place);
+    same_buffer("table", a.refusal, table, other, length);
+    note_scores(kind, &a, counts[0]);
+    if (!differs)
+        return;
+    printf("kind %lu, subject %lu, a table of %zu bytes\n", (unsigned long)kind, (unsigned long)subject, length);
+    print_numbers("counts", counts, count);
 }
 
 /* ---- The curve ---- */
@@ -569,7 +638,8 @@ int main(int arguments, char **argument)
     seed_chance(seed);
     printf("compare: seed %llu\n", (unsigned long long)seed);
     fflush(stdout);
-    int fine = run("best set", GIVES(0, 1, 2, 3, 4, 5, 6, 7, 8, 11, 14), compare_best_set, BEST_SETS) &&
+    int fine = run("first scores", GIVES(0, 3, 11, 15), compare_scores, SCORES) && all_kinds() &&
+               run("best set", GIVES(0, 1, 2, 3, 4, 5, 6, 7, 8, 11, 14), compare_best_set, BEST_SETS) &&
                run("curve", GIVES(0, 9, 10, 11), compare_curve, CURVES) &&
                run("ranks", GIVES(0, 2, 11), compare_ranks, RANKINGS) &&
                run("direct bands", GIVES(0, 2, 9, 11, 12, 13), compare_direct, DIRECT) &&

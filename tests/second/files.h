@@ -5,7 +5,7 @@
 #include <stddef.h>
 #include <stdint.h>
 
-enum { FILE_BYTES = 65536, FILE_ROOM = FILE_BYTES + 4096, TEXT_BYTES = 65536, REFUSALS = 15 };
+enum { FILE_BYTES = 65536, FILE_ROOM = FILE_BYTES + 4096, TEXT_BYTES = 65536, REFUSALS = 16 };
 
 struct file {
     size_t length;

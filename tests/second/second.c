@@ -314,6 +314,68 @@ struct second_best second_best_set(const uint8_t *catalogue, size_t catalogue_le
     return find_best(&of, &best) ? best : no_best(refused(8, 0));
 }
 
+/* ---- First scores from counts ---- */
+
+enum { MISSING = 65535, LETTERS = 5, HALF_SCORE = 5000 };
+
+static void put_slot(uint8_t *row, uint32_t slot, uint32_t value)
+{
+    row[2 * (slot - 1)] = (uint8_t)(value / 256);
+    row[2 * (slot - 1) + 1] = (uint8_t)(value % 256);
+}
+
+/* How many students have a result below this one, which is counted from 0. */
+static uint64_t counted_below(const uint32_t *counts, size_t index)
+{
+    uint64_t sum = 0;
+    for (size_t i = 0; i < index; i++)
+        sum += counts[i];
+    return sum;
+}
+
+/* 100 times (half the count at the result, plus all below), divided by the total, in hundredths: twice of it over twice the total. */
+static uint32_t first_score(const uint32_t *counts, size_t index, uint64_t total)
+{
+    return (uint32_t)nearest(TOP_SCORE * (counts[index] + 2 * counted_below(counts, index)), 2 * total);
+}
+
+static size_t counts_for(uint32_t kind)
+{
+    if (within(kind, GENERAL, EXTERNAL))
+        return SLOTS;
+    return kind == APPLIED ? LETTERS : 0;
+}
+
+static struct refusal judge_counts(uint32_t kind, uint32_t subject, const uint32_t *counts, size_t counts_len, size_t table_len)
+{
+    if (kind == SHORT_COURSE || !within(kind, GENERAL, VET) || subject >= table_len / ROW)
+        return refused(3, 0);
+    if (counts_len != counts_for(kind) || table_len % ROW != 0)
+        return refused(11, 0);
+    for (size_t i = 0; i < counts_len; i++)
+        if (counts[i] > MILLION)
+            return refused(15, i);
+    return counted_below(counts, counts_len) > MILLION ? refused(15, 0) : accepted();
+}
+
+struct second_scored second_first_scores(uint32_t kind, uint32_t subject, const uint32_t *counts, size_t counts_len, uint8_t *table,
+                                         size_t table_len)
+{
+    static const uint32_t applied_slots[LETTERS] = {10, 30, 50, 70, 90};
+    struct refusal r = judge_counts(kind, subject, counts, counts_len, table_len);
+    if (r.number != 0)
+        return (struct second_scored){r.number, r.place};
+    uint8_t *row = table + (size_t)ROW * subject;
+    uint64_t total = counted_below(counts, counts_len);
+    for (uint32_t slot = 1; slot <= SLOTS; slot++)
+        put_slot(row, slot, MISSING);
+    if (kind == VET)
+        put_slot(row, 1, HALF_SCORE);
+    for (size_t i = 0; total != 0 && i < counts_len; i++)
+        put_slot(row, kind == APPLIED ? applied_slots[i] : (uint32_t)i + 1, first_score(counts, i, total));
+    return (struct second_scored){0, 0};
+}
+
 /* ---- Population and curve ---- */
 
 /* The entry of band k in millionths, rounded down. a is 0 to 10000 as r is 2500 to 7500. */

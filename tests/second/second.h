@@ -21,6 +21,10 @@ struct second_curve {
     uint32_t rate;       /* r, in ten-thousandths */
 };
 
+struct second_scored {
+    uint64_t refusal, place;
+};
+
 struct second_ranked {
     uint64_t refusal, place;
 };
@@ -37,6 +41,10 @@ struct second_text {
 /* Refused: catalogue 1, 2, 3; table length 11; year 14; results 1, 2; for each result in turn 3, 4, 5; then 6, 7, 8. */
 struct second_best second_best_set(const uint8_t *catalogue, size_t catalogue_len, const uint8_t *table, size_t table_len,
                                    uint32_t year, const uint8_t *results, size_t results_len);
+
+/* First scores from counts: the subject's row of the table is written. Refused: 3, 11, 15. */
+struct second_scored second_first_scores(uint32_t kind, uint32_t subject, const uint32_t *counts, size_t counts_len, uint8_t *table,
+                                         size_t table_len);
 
 /* The figures are Q16..Q20, E16..E20; 2000 entries are written. Refused: 11, 9, 10. */
 struct second_curve second_participation(const uint32_t *figures, size_t figures_len, uint32_t *table, size_t table_len);

@@ -9,6 +9,9 @@
 struct shtegomir_best plain_best_set(const uint8_t *catalogue, size_t catalogue_len, const uint8_t *table, size_t table_len,
                                      uint32_t year, const uint8_t *results, size_t results_len);
 
+struct shtegomir_scored plain_first_scores(uint32_t kind, uint32_t subject, const uint32_t *counts, size_t counts_len, uint8_t *table,
+                                           size_t table_len);
+
 struct shtegomir_curve plain_participation(const uint32_t *figures, size_t figures_len, uint32_t *table, size_t table_len);
 
 /* Sorts by the C library's qsort; its room comes from malloc. */

@@ -167,6 +167,29 @@ static void race_curve(void)
     same("curve", table, table_plain, sizeof table);
 }
 
+/* ---- First scores ---- */
+
+static uint32_t at_each[100];
+static uint8_t scored[200 * SUBJECTS], scored_plain[200 * SUBJECTS];
+
+static void scores_by_proof(void)
+{
+    shtegomir_first_scores(1, 1, at_each, 100, scored, sizeof scored);
+}
+
+static void scores_by_c(void)
+{
+    plain_first_scores(1, 1, at_each, 100, scored_plain, sizeof scored_plain);
+}
+
+static void race_scores(void)
+{
+    for (int i = 0; i < 100; i++)
+        at_each[i] = next(1000);
+    race("first scores, counts", 100, scores_by_proof, scores_by_c, 1);
+    same("first scores", scored, scored_plain, sizeof scored);
+}
+
 /* ---- Ranks and bands ---- */
 
 static uint32_t values[MOST], ranks[MOST], ranks_plain[MOST], percentiles[MOST], percentiles_plain[MOST];
@@ -313,6 +336,7 @@ int main(void)
 {
     printf("| job | size | proved | plain C | ratio | growth |\n|---|---|---|---|---|---|\n");
     race_best_sets();
+    race_scores();
     race_curve();
     race_cohorts();
     race_reports();

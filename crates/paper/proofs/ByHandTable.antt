@@ -2,14 +2,14 @@
 use mathlib.Core.Path.{_≡_, refl}
 use mathlib.Core.Bool.{true, false}
 use mathlib.Core.List.{[], _∷_}
-use Rattle.paper.specs.Limits.{entryBytes, resultBytes, figureBytes, mostSubjects, mostResults, slots, rowBytes, missing, missingByte, topScore, members, leastGeneral, mostAggregate, firstYear, yearsBefore, leastYear, mostYear, figureCount, mostFigure, mostPopulation, leastRate, mostRate, topBand, bandCount, mostEntry, mostStudents, mostTallied, mostValues, tallyCount, mostBytes, catalogueBytes, tableBytes, resultsBytes}
+use Rattle.paper.specs.Limits.{entryBytes, resultBytes, figureBytes, mostSubjects, mostResults, slots, rowBytes, missing, missingByte, scoreParts, topScore, mostCount, members, leastGeneral, mostAggregate, firstYear, yearsBefore, leastYear, mostYear, figureCount, mostFigure, mostPopulation, leastRate, mostRate, topBand, bandCount, mostEntry, mostStudents, mostTallied, mostValues, tallyCount, mostBytes, catalogueBytes, tableBytes, resultsBytes}
 use Rattle.paper.specs.Letters.{letterA, letterB, letterC, letterD, letterE, letterN, letterY}
 use Rattle.paper.specs.Ranges.{within}
 use Rattle.paper.specs.Rounding.{nearest}
 use Rattle.paper.specs.Bytes.{word, long, wordBytes, longBytes}
 use Rattle.paper.specs.Rulings.{_at_}
 use Rattle.paper.specs.Refusals.{fault}
-use Rattle.paper.specs.declared.refusal.Refusal.the-variants.{Malformed, TooMany, WrongSubject, WrongResult, WrongScore, Again, NoSet, WrongAggregate, WrongEntry, WrongYear}
+use Rattle.paper.specs.declared.refusal.Refusal.the-variants.{Malformed, TooMany, WrongSubject, WrongResult, WrongScore, Again, NoSet, WrongAggregate, WrongEntry, WrongYear, WrongCount}
 
 -- the table of refusals, by number: those that are not in ByHand; 8 has its own place
 pub numbers :
@@ -23,7 +23,8 @@ pub numbers :
     × (fault (WrongAggregate 40) ≡ 12 at 40)
     × (fault (WrongEntry 40) ≡ 13 at 40)
     × (fault (WrongYear 40) ≡ 14 at 40)
-numbers = (refl, refl, refl, refl, refl, refl, refl, refl, refl, refl)
+    × (fault (WrongCount 40) ≡ 15 at 40)
+numbers = (refl, refl, refl, refl, refl, refl, refl, refl, refl, refl, refl)
 
 -- a catalogue entry is 5 bytes, a result 6, a figure 4; 100 slots of 16 bits per subject, 200 bytes; 65535 means missing
 pub widths : (entryBytes ≡ 5) × (resultBytes ≡ 6) × (figureBytes ≡ 4) × (slots ≡ 100) × (rowBytes ≡ 200) × (missing ≡ 65535) × (missingByte ≡ 255)
@@ -42,9 +43,9 @@ pub limits :
     × (resultsBytes ≡ 49152)
 limits = (refl, refl, refl, refl, refl, refl, refl, refl, refl)
 
--- five of a set, four of them General; a score to 10000, an aggregate to 50000, 50001 counts
-pub sets : (members ≡ 5) × (leastGeneral ≡ 4) × (topScore ≡ 10000) × (mostAggregate ≡ 50000) × (tallyCount ≡ 50001)
-sets = (refl, refl, refl, refl, refl)
+-- five of a set, four of them General; scores in hundredths, to 10000, an aggregate to 50000, 50001 counts; students at a result to 1000000
+pub sets : (members ≡ 5) × (leastGeneral ≡ 4) × (scoreParts ≡ 100) × (topScore ≡ 10000) × (mostAggregate ≡ 50000) × (tallyCount ≡ 50001) × (mostCount ≡ 1000000)
+sets = (refl, refl, refl, refl, refl, refl, refl)
 
 -- results from 1980, the assessment year and the four before it, 1984 to 9999
 pub years : (firstYear ≡ 1980) × (yearsBefore ≡ 4) × (leastYear ≡ 1984) × (mostYear ≡ 9999)

@@ -4,7 +4,7 @@ use native.Mathlib.Omega.{arith}
 use native.Mathlib.Nat.{le-refl}
 use native.Mathlib.Decide.{decLe}
 use native.Mathlib.Numerals.{add-one}
-use mathlib.Core.Path.{_≡_, sym, ap, _∙_}
+use mathlib.Core.Path.{_≡_, refl, sym, ap, _∙_}
 use mathlib.Core.Bool.{Bool}
 use mathlib.Core.Logic.{_⊎_, ⊎-elim}
 use mathlib.Core.List.{List, [], _∷_, _++_, append-assoc, append-nil}
@@ -125,6 +125,23 @@ laid-inside xs a n k q h g =
     let l : length (take n (drop a xs)) ≡ n = length-take-le n (drop a xs) (simp length-drop (omega arith)) in
     sym (laid-over xs a (take n (drop a xs)) (omega arith) k q (omega arith)) ∙ ap (λ (z : List ℕ). laid z (a + k) q) (laid-same a n xs h)
 
+-- a part laid past the first of two lists
+pub laid-past : (xs ys : List ℕ) (a : ℕ) (part : List ℕ) → laid (xs ++ ys) (length xs + a) part ≡ xs ++ laid ys a part
+unfolding laid
+laid-past xs ys a part =
+    let e : length xs + a + length part ≡ length xs + (a + length part) = omega arith in
+    ap (λ (z : List ℕ). z ++ (part ++ drop (length xs + a + length part) (xs ++ ys))) (take-append-add xs ys a)
+    ∙ ap (λ (z : List ℕ). (xs ++ take a ys) ++ (part ++ z)) (ap (λ (n : ℕ). drop n (xs ++ ys)) e ∙ drop-append-add xs ys (a + length part))
+    ∙ append-assoc xs (take a ys) (part ++ drop (a + length part) ys)
+
+-- of two parts of one length laid at one place the last stays
+pub laid-again : (xs : List ℕ) (a : ℕ) (part q : List ℕ) → a + length part ≤ length xs → length q ≡ length part → laid (laid xs a part) a q ≡ laid xs a q
+laid-again xs a part q h l =
+    let e : a ≡ a + 0 = omega arith in
+    ap (λ (n : ℕ). laid (laid xs a part) n q) e
+    ∙ laid-over xs a part (omega arith) 0 q (omega arith)
+    ∙ ap (laid xs a) (laid-all part q (omega arith))
+
 -- the length stays
 pub length-laid : (xs : List ℕ) (a : ℕ) (part : List ℕ) → a + length part ≤ length xs → length (laid xs a part) ≡ length xs
 unfolding laid
@@ -158,6 +175,19 @@ put-there xs a part h = ap (λ (b : Bool). pick b (laid xs a part) xs) (le-leb _
 pub put-none : (xs : List ℕ) (a : ℕ) (part : List ℕ) → length xs < a + length part → put xs a part ≡ xs
 unfolding put
 put-none xs a part h = ap (λ (b : Bool). pick b (laid xs a part) xs) (lt-leb _ _ h)
+
+-- what was put is put again
+pub put-again : (xs : List ℕ) (a : ℕ) (part : List ℕ) → put (put xs a part) a part ≡ put xs a part
+put-again xs a part = go (decLe (a + length part) (length xs))
+  where
+    go : Dec (a + length part ≤ length xs) → put (put xs a part) a part ≡ put xs a part
+    go (yes h) =
+        let l = length-laid xs a part h in
+        ap (λ (z : List ℕ). put z a part) (put-there xs a part h)
+        ∙ put-there (laid xs a part) a part (omega arith)
+        ∙ laid-again xs a part part h refl
+        ∙ sym (put-there xs a part h)
+    go (no h) = ap (λ (z : List ℕ). put z a part) (put-none xs a part (omega arith))
 
 pub length-put : (xs : List ℕ) (a : ℕ) (part : List ℕ) → length (put xs a part) ≡ length xs
 length-put xs a part = go (decLe (a + length part) (length xs))

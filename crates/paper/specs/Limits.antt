@@ -17,7 +17,8 @@ mostSubjects = 64
 abbrev pub mostResults : ℕ
 mostResults = 16
 
--- the score table: the slots of a row, the bytes of a slot and of a row, what a missing slot holds and each byte of it, the greatest score
+-- the score table: the slots of a row, the bytes of a slot and of a row, what a missing slot holds and each byte of it; the parts of one
+-- in which its scores are, and the greatest score, 100
 abbrev pub slots : ℕ
 slots = 100
 
@@ -33,8 +34,15 @@ missing = 65535
 abbrev pub missingByte : ℕ
 missingByte = missing / 256
 
+abbrev pub scoreParts : ℕ
+scoreParts = 100
+
 abbrev pub topScore : ℕ
-topScore = 10000
+topScore = 100 * scoreParts
+
+-- the greatest count of students at a result, and of all in a subject
+abbrev pub mostCount : ℕ
+mostCount = 1000000
 
 -- the members of a set, the Generals that it has at least, and the greatest aggregate
 abbrev pub members : ℕ

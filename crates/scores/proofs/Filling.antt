@@ -12,10 +12,10 @@ use borrow.Author.Tests.{ltb-false, ne-eqb, le-ltb}
 use Rattle.paper.specs.Limits.{slotBytes, rowBytes, missing, topScore, missingByte}
 use Rattle.paper.specs.Lists.{pick}
 use Rattle.paper.specs.Bytes.{byte, word, wordBytes}
-use Rattle.paper.proofs.Parted.{length-laid, laid-off}
+use Rattle.paper.proofs.Parted.{length-laid, laid-off, length-put, put-there, put-none}
 use Rattle.paper.proofs.Written.{length-word, word-laid, word-in, word-off}
 use Rattle.scores.specs.Scores.{rows, hasSlot, inRow, slotAt, slotValue, scaled, absent, tooHigh, valued, found}
-use Rattle.scores.specs.Rows.{missingRow, cleared, stored}
+use Rattle.scores.specs.Rows.{missingRow, withRow, cleared, stored}
 use Rattle.scores.specs.Meaning.{OffRow}
 use Rattle.scores.proofs.Rowed.{slot-there, slot-same, length-missing, cleared-row, cleared-none, stored-slot, stored-none, off-row, off-slot}
 
@@ -29,7 +29,10 @@ module _ (table : List ℕ) (subject slot : ℕ) where
   unfolding found
   found-none e = ap (λ (b : Bool). valued (pick b (word table (slotAt subject slot)) missing)) e
 
--- what is found as a score is at most the greatest
+-- a number that is at most the greatest score is a score, and what is found as one is at most that
+pub valued-score : (v : ℕ) → v ≤ topScore → valued v ≡ scaled v
+valued-score v h = simp (ne-eqb v missing (λ e. omega arith), le-ltb topScore v h) refl
+
 valued-within : (value v : ℕ) → valued value ≡ scaled v → v ≤ topScore
 valued-within value v = go (eqb value missing) (ltb topScore value) (ltb-false topScore value)
   where
@@ -50,6 +53,21 @@ found-same t u subject slot l w = go (hasSlot u subject slot) refl (slot-same t 
     go : (b : Bool) → hasSlot u subject slot ≡ b → hasSlot t subject slot ≡ hasSlot u subject slot → found t subject slot ≡ found u subject slot
     go true e same = found-there t subject slot (same ∙ e) ∙ ap valued (w e) ∙ sym (found-there u subject slot e)
     go false e same = found-none t subject slot (same ∙ e) ∙ sym (found-none u subject slot e)
+
+-- a table with another row in place of a subject's: every other subject's slots are as they were
+pub row-other : (table : List ℕ) (subject : ℕ) (row : List ℕ) (other slot : ℕ) → length row ≡ rowBytes → (other ≡ subject → ⊥)
+    → found (withRow table subject row) other slot ≡ found table other slot
+row-other table subject row other slot l n = go (decLt subject (rows table))
+  where
+    go : Dec (subject < rows table) → found (withRow table subject row) other slot ≡ found table other slot
+    go (no h) = ap (λ (z : List ℕ). found z other slot) (put-none table (rowBytes * subject) row (omega arith))
+    go (yes r) =
+        found-same (withRow table subject row) table other slot (length-put table (rowBytes * subject) row)
+        (λ e.
+        let h = slot-there table other slot e in
+        ap (λ (z : List ℕ). word z (slotAt other slot)) (put-there table (rowBytes * subject) row (omega arith))
+        ∙ word-off table (rowBytes * subject) row (slotAt other slot) (omega arith)
+        (⊎-elim inl (λ g. inr (omega arith)) (off-row subject other slot n (h .1) (h .2))))
 
 -- a cleared row: the length stays, and no byte outside the row changes
 pub length-cleared : (table : List ℕ) (subject : ℕ) → length (cleared table subject) ≡ length table
@@ -92,17 +110,8 @@ found-cleared table subject slot = go (hasSlot (cleared table subject) subject s
         found-there (cleared table subject) subject slot e ∙ ap valued w
 
 pub cleared-other : (table : List ℕ) (subject other slot : ℕ) → (other ≡ subject → ⊥) → found (cleared table subject) other slot ≡ found table other slot
-cleared-other table subject other slot n = go (decLt subject (rows table))
-  where
-    go : Dec (subject < rows table) → found (cleared table subject) other slot ≡ found table other slot
-    go (no h) = ap (λ (z : List ℕ). found z other slot) (cleared-none table subject (omega arith))
-    go (yes r) =
-        found-same (cleared table subject) table other slot (length-cleared table subject)
-        (λ e.
-        let h = slot-there table other slot e in
-        ap (λ (z : List ℕ). word z (slotAt other slot)) (cleared-row table subject r)
-        ∙ word-off table (rowBytes * subject) missingRow (slotAt other slot) (omega arith)
-        (⊎-elim inl (λ g. inr (omega (arith, length-missing))) (off-row subject other slot n (h .1) (h .2))))
+unfolding cleared
+cleared-other table subject other slot n = row-other table subject missingRow other slot length-missing n
 
 -- a stored score: the length stays, and no byte but the slot's two changes
 module _ (table : List ℕ) (subject slot score : ℕ) where
@@ -141,8 +150,7 @@ module _ (table : List ℕ) (subject slot score : ℕ) where
   pub found-stored : hasSlot table subject slot ≡ true → score ≤ topScore → found (stored table subject slot score) subject slot ≡ scaled score
   found-stored e g =
       let there = slot-same (stored table subject slot score) table subject slot length-stored ∙ e in
-      let n : score ≡ missing → ⊥ = λ x. omega arith in
-      found-there (stored table subject slot score) subject slot there ∙ ap valued (stored-word e) ∙ simp (ne-eqb _ _ n, le-ltb _ _ g)
+      found-there (stored table subject slot score) subject slot there ∙ ap valued (stored-word e) ∙ valued-score score g
 
   -- and every other slot of any row is as it was
   pub stored-other : (other number : ℕ) → ((other ≡ subject) × (number ≡ slot) → ⊥) → found (stored table subject slot score) other number ≡ found table other number

@@ -3,4 +3,5 @@ pub mod ByHandSlots
 pub mod Filling
 pub mod Promised
 pub mod Rowed
+pub mod Slotted
 pub mod Within

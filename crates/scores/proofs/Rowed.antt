@@ -20,7 +20,7 @@ use Rattle.paper.proofs.Ranging.{within-true}
 use Rattle.paper.proofs.Parted.{put-there, put-none, length-put, put-laid, laid-inside}
 use Rattle.paper.proofs.Written.{length-word}
 use Rattle.scores.specs.Scores.{rows, hasSlot, inRow, slotAt}
-use Rattle.scores.specs.Rows.{missingRow, cleared, stored}
+use Rattle.scores.specs.Rows.{missingRow, withRow, cleared, stored}
 
 -- a slot of a table
 pub slot-there : (table : List ℕ) (subject slot : ℕ) → hasSlot table subject slot ≡ true → (subject < rows table) × (1 ≤ slot) × (slot ≤ slots)
@@ -78,11 +78,20 @@ module _ (table : List ℕ) (subject : ℕ) (row : List ℕ) where
   lent-row : take (rowBytes * subject + rowBytes - rowBytes * subject) (drop (rowBytes * subject) table) ≡ take rowBytes (drop (rowBytes * subject) table)
   lent-row = let e : rowBytes * subject + rowBytes - rowBytes * subject ≡ rowBytes = omega arith in ap (λ (n : ℕ). take n (drop (rowBytes * subject) table)) e
 
+  pub lent-length : subject < rows table → length (take (rowBytes * subject + rowBytes - rowBytes * subject) (drop (rowBytes * subject) table)) ≡ rowBytes
+  lent-length h = ap length lent-row ∙ row-length table subject h
+
+  -- put back, it stands in place of the subject's
+  pub row-put : subject < rows table → length row ≡ rowBytes
+      → putMid (rowBytes * subject) (rowBytes * subject + rowBytes - rowBytes * subject) table row ≡ withRow table subject row
+  row-put h l = put-laid (rowBytes * subject) rowBytes table row l ∙ sym (put-there table (rowBytes * subject) row (omega arith))
+
   pub row-filled : subject < rows table → row ≡ replicate (length (take (rowBytes * subject + rowBytes - rowBytes * subject) (drop (rowBytes * subject) table))) missingByte
       → putMid (rowBytes * subject) (rowBytes * subject + rowBytes - rowBytes * subject) table row ≡ cleared table subject
+  unfolding cleared
   row-filled h e =
-      let f : row ≡ missingRow = e ∙ ap (λ (n : ℕ). replicate n missingByte) (ap length lent-row ∙ row-length table subject h) in
-      put-laid (rowBytes * subject) rowBytes table row (ap length f ∙ length-missing) ∙ ap (laid table (rowBytes * subject)) f ∙ sym (cleared-row table subject h)
+      let f : row ≡ missingRow = e ∙ ap (λ (n : ℕ). replicate n missingByte) (lent-length h) in
+      row-put h (ap length f ∙ length-missing) ∙ ap (withRow table subject) f
 
   pub row-scored : (slot score : ℕ) → hasSlot table subject slot ≡ true
       → row ≡ put (take (rowBytes * subject + rowBytes - rowBytes * subject) (drop (rowBytes * subject) table)) (inRow slot) (wordBytes score)

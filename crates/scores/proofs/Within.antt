@@ -17,10 +17,11 @@ use Rattle.scores.specs.Meaning.{NoneOver}
 use Rattle.scores.proofs.Rowed.{slot-there, there-slot, length-missing, stored-none}
 use Rattle.scores.proofs.Filling.{found-there, found-none, missing-word, found-stored, stored-other}
 
-absent-over : (f : Found) → f ≡ absent → f ≡ tooHigh → ⊥
+-- what is missing, or a score, is not over
+pub absent-over : (f : Found) → f ≡ absent → f ≡ tooHigh → ⊥
 absent-over f a b = let z : _≡_ {A = ℕ} 0 1 = cc in omega arith
 
-scaled-over : (f : Found) (v : ℕ) → f ≡ scaled v → f ≡ tooHigh → ⊥
+pub scaled-over : (f : Found) (v : ℕ) → f ≡ scaled v → f ≡ tooHigh → ⊥
 scaled-over f v a b = let z : _≡_ {A = ℕ} 0 1 = cc in omega arith
 
 -- a number in the first of two lists, and in the second

@@ -50,6 +50,7 @@ curve-back o p g h e = told-back noCurve o p g h (ap (λ s. s .told) e) (ap curv
 pub curve-reads : (o : Outcome CurveValues) → Refusing o → Reads noCurve o (flatCurve o .told) (curveValues (flatCurve o))
 curve-reads = reads noCurve
 
+-- ranks and first scores have no values
 pub rank-back : (o p : Outcome (Unit {0})) → Refusing o → Refusing p → told o ≡ told p → o ≡ p
 rank-back o p g h e = told-back tt o p g h e refl
 

@@ -10,6 +10,8 @@ use Rattle.curve.specs.Promise as curveSays
 use Rattle.curve.proofs.Promised as curve
 use Rattle.ranks.specs.Promise as ranksSay
 use Rattle.ranks.proofs.Promised as ranks
+use Rattle.initial.specs.Promise as scoresSay
+use Rattle.initial.proofs.Promised as scores
 use Rattle.bands.specs.Promise as bandsSay
 use Rattle.bands.proofs.Promised as bands
 use Rattle.report.specs.Promise as reportSays
@@ -17,6 +19,7 @@ use Rattle.report.proofs.Promised as report
 use Rattle.shtegomir.specs.Best.{form as bestForm, BestCalled}
 use Rattle.shtegomir.specs.Participation.{form as curveForm, CurveCalled}
 use Rattle.shtegomir.specs.Ranking.{form as rankForm, RankCalled}
+use Rattle.shtegomir.specs.Scoring.{form as scoresForm, ScoresCalled}
 use Rattle.shtegomir.specs.Placing.{form as placedForm, DirectCalled, TallyCalled}
 use Rattle.shtegomir.specs.Text.{form as textForm, ReportCalled}
 use Rattle.shtegomir.specs.declared.telling.Told.{Told}
@@ -46,6 +49,14 @@ module _ (values : List ℕ) (before : ranksSay.Lent) where
 
   pub rank-meets : let o = ranksSay.ruling values before in RankCalled values before (rankForm (ranksSay.answer o)) (ranksSay.left values before o)
   rank-meets = called-met rankForm (ranks.meets values before)
+
+module _ (kind subject : ℕ) (counts before : List ℕ) where
+  pub scores-determined : {s t : Told} {b c : List ℕ} → ScoresCalled kind subject counts before s b → ScoresCalled kind subject counts before t c → (s ≡ t) × (b ≡ c)
+  scores-determined = called-once (λ q r. scores.determined kind subject counts before)
+
+  pub scores-meets : let o = scoresSay.ruling kind subject counts before in
+      ScoresCalled kind subject counts before (scoresForm (scoresSay.answer o)) (scoresSay.left kind subject counts before o)
+  scores-meets = called-met scoresForm (scores.meets kind subject counts before)
 
 module _ (aggregates table : List ℕ) (Y : ℕ) (before : List ℕ) where
   pub direct-determined : {s t : Placed} {b c : List ℕ} → DirectCalled aggregates table Y before s b → DirectCalled aggregates table Y before t c → (s ≡ t) × (b ≡ c)

@@ -3,5 +3,6 @@ pub mod best;
 pub mod participation;
 pub mod placing;
 pub mod ranking;
+pub mod scoring;
 pub mod telling;
 pub mod text;

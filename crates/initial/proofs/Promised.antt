@@ -1,0 +1,34 @@
+-- The promise determines the answer and the table, and a computed answer meets it.
+use Prim.Native.Nat.{ℕ}
+use mathlib.Core.Path.{_≡_, refl, ap}
+use mathlib.Core.List.{List}
+use Rattle.paper.specs.Promises.{Tells}
+use Rattle.paper.proofs.Promised as every
+use Rattle.paper.proofs.Ruled.{refusal-fault, tabled}
+use Rattle.initial.specs.Promise.{said, countRules, ruling, Promise, answer, left}
+use Rattle.initial.specs.declared.Answer.{Answer}
+use Rattle.initial.specs.declared.Answer.the-variants.{Accepted, Refused}
+
+-- what is said tells the answer
+pub tells : Tells said (λ u. Accepted) Refused
+tells = record { accepting = λ u. refl; refusing = λ x. refl; told = told }
+  where
+    told : (r : Answer) → answer (said r) ≡ r
+    told Accepted = refl
+    told (Refused x) = ap Refused (refusal-fault x)
+
+module _ (kind subject : ℕ) (counts before : List ℕ) where
+  -- the computed answer and table are permitted
+  pub meets : let o = ruling kind subject counts before in Promise kind subject counts before (answer o) (left kind subject counts before o)
+  meets =
+      every.meets tells every.rules-is every.owes-equal
+      (tabled (countRules kind subject counts before) tt (λ e. refl, (λ e. refl, (λ e. refl, (λ e. refl, (λ e. refl, (λ e. refl, (λ e. refl, tt))))))))
+
+  -- and no others
+  pub only : {r : Answer} {after : List ℕ} → Promise kind subject counts before r after
+      → let o = ruling kind subject counts before in (r ≡ answer o) × (after ≡ left kind subject counts before o)
+  only = every.only tells every.rules-is every.owes-equal
+
+  -- two permitted results are equal
+  pub determined : {r s : Answer} {b c : List ℕ} → Promise kind subject counts before r b → Promise kind subject counts before s c → (r ≡ s) × (b ≡ c)
+  determined = every.determined tells every.rules-is every.owes-equal
