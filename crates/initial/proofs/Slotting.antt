@@ -18,7 +18,8 @@ use Rattle.scores.specs.Scores.{letterSlot, slotOf}
 use Rattle.scores.specs.Rows.{rowOf}
 use Rattle.scores.proofs.Slotted.{with, row-same}
 use Rattle.initial.specs.Counts.{score}
-use Rattle.initial.specs.Row.{appliedSlots, asked, slotFor, scoreIn}
+use Rattle.initial.specs.Row.{appliedSlots, asked, slotFor}
+use Rattle.initial.specs.Inner.{scoreAmong}
 
 -- the slots of E to A
 pub applied-slot : (j : ℕ) → j < 5 → getD appliedSlots j 0 ≡ 20 * j + 10
@@ -91,19 +92,19 @@ module _ (kind : ℕ) where
     goes slot i = slotFor kind i =? slot
 
     -- what a slot holds, where result j is the first that goes there, and where none does
-    in-here : (n slot j : ℕ) → j < n → first n (goes slot) ≡ j → scoreIn kind counts n slot ≡ score counts j
-    unfolding scoreIn goes
+    in-here : (n slot j : ℕ) → j < n → first n (goes slot) ≡ j → scoreAmong kind counts n slot ≡ score counts j
+    unfolding scoreAmong goes
     in-here n slot j l e = rw e (ap (λ (b : Bool). pick b (score counts j) missing) (lt-ltb j n l))
 
-    in-no : (n slot : ℕ) → first n (goes slot) ≡ n → scoreIn kind counts n slot ≡ missing
-    unfolding scoreIn goes
+    in-no : (n slot : ℕ) → first n (goes slot) ≡ n → scoreAmong kind counts n slot ≡ missing
+    unfolding scoreAmong goes
     in-no n slot e = rw e (ap (λ (b : Bool). pick b (score counts n) missing) (le-ltb n n (omega arith)))
 
-    pub in-none : (slot : ℕ) → scoreIn kind counts 0 slot ≡ missing
+    pub in-none : (slot : ℕ) → scoreAmong kind counts 0 slot ≡ missing
     in-none slot = in-no 0 slot (omega (arith, first-within 0 (goes slot)))
 
     -- result j stands in its slot
-    pub in-own : (n j : ℕ) → n ≤ asked kind → j < n → scoreIn kind counts n (slotFor kind j) ≡ score counts j
+    pub in-own : (n j : ℕ) → n ≤ asked kind → j < n → scoreAmong kind counts n (slotFor kind j) ≡ score counts j
     unfolding goes
     in-own n j g l =
         in-here n (slotFor kind j) j l
@@ -116,14 +117,14 @@ module _ (kind : ℕ) where
         own = eq-eqb (slotFor kind j) (slotFor kind j) refl
 
     -- one result more
-    in-next : (n : ℕ) → n < asked kind → (slot : ℕ) → with (scoreIn kind counts n) (slotFor kind n) (score counts n) slot ≡ scoreIn kind counts (n + 1) slot
+    in-next : (n : ℕ) → n < asked kind → (slot : ℕ) → with (scoreAmong kind counts n) (slotFor kind n) (score counts n) slot ≡ scoreAmong kind counts (n + 1) slot
     unfolding goes
     in-next n h slot = go (ℕ-discrete slot (slotFor kind n))
       where
         more : (slot ≡ slotFor kind n → ⊥) → goes slot n ≡ false
         more x = ne-eqb (slotFor kind n) slot (λ e. x (sym e))
 
-        other : (slot ≡ slotFor kind n → ⊥) → Dec (first n (goes slot) < n) → scoreIn kind counts n slot ≡ scoreIn kind counts (n + 1) slot
+        other : (slot ≡ slotFor kind n → ⊥) → Dec (first n (goes slot) < n) → scoreAmong kind counts n slot ≡ scoreAmong kind counts (n + 1) slot
         other x (yes l) =
             let j = first n (goes slot) in
             in-here n slot j l refl
@@ -136,12 +137,12 @@ module _ (kind : ℕ) where
             none x i (yes a) g = first-before n (goes slot) i (omega arith)
             none x i (no a) g = let e : i ≡ n = omega arith in ap (goes slot) e ∙ more x
 
-        go : Dec (slot ≡ slotFor kind n) → with (scoreIn kind counts n) (slotFor kind n) (score counts n) slot ≡ scoreIn kind counts (n + 1) slot
+        go : Dec (slot ≡ slotFor kind n) → with (scoreAmong kind counts n) (slotFor kind n) (score counts n) slot ≡ scoreAmong kind counts (n + 1) slot
         go (yes e) =
             simp (eq-eqb slot (slotFor kind n) e) refl
             ∙ sym (in-own (n + 1) n (omega arith) (omega arith))
-            ∙ ap (scoreIn kind counts (n + 1)) (sym e)
+            ∙ ap (scoreAmong kind counts (n + 1)) (sym e)
         go (no x) = simp (ne-eqb slot (slotFor kind n) x) refl ∙ other x (decLt (first n (goes slot)) n)
 
-    pub row-next : (n : ℕ) → n < asked kind → rowOf (with (scoreIn kind counts n) (slotFor kind n) (score counts n)) ≡ rowOf (scoreIn kind counts (n + 1))
+    pub row-next : (n : ℕ) → n < asked kind → rowOf (with (scoreAmong kind counts n) (slotFor kind n) (score counts n)) ≡ rowOf (scoreAmong kind counts (n + 1))
     row-next n h = row-same _ _ (λ slot a b. in-next n h slot)

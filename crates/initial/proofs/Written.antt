@@ -16,19 +16,20 @@ use Rattle.scores.specs.Rows.{rowOf, missingRow}
 use Rattle.scores.proofs.Slotted.{length-row, missing-row}
 use Rattle.initial.specs.Counts.{total, score}
 use Rattle.initial.specs.Row.{asked, slotFor, vetIn, scoreIn, rowFor}
+use Rattle.initial.specs.Inner.{scoreAmong}
 use Rattle.initial.proofs.Rising.{score-most}
 use Rattle.initial.proofs.Slotting.{in-own}
 
 module _ (kind : ℕ) (counts : List ℕ) where
   -- what a slot of the row holds
   unfoldable pub inSlot : ℕ → ℕ
-  inSlot slot = if isVet kind then vetIn slot else if total counts =? 0 then missing else scoreIn kind counts (length counts) slot
+  inSlot slot = if isVet kind then vetIn slot else if total counts =? 0 then missing else scoreAmong kind counts (length counts) slot
 
   pub row-is : rowFor kind counts ≡ rowOf inSlot
-  unfolding rowFor inSlot
+  unfolding rowFor inSlot scoreIn scoreAmong
   row-is = go (isVet kind) (total counts =? 0)
     where
-      go : (v z : Bool) → pick v (rowOf vetIn) (pick z missingRow (rowOf (scoreIn kind counts (length counts)))) ≡ rowOf (λ slot. pick v (vetIn slot) (pick z missing (scoreIn kind counts (length counts) slot)))
+      go : (v z : Bool) → pick v (rowOf vetIn) (pick z missingRow (rowOf (scoreAmong kind counts (length counts)))) ≡ rowOf (λ slot. pick v (vetIn slot) (pick z missing (scoreAmong kind counts (length counts) slot)))
       go true z = refl
       go false true = missing-row
       go false false = refl
@@ -40,8 +41,8 @@ module _ (kind : ℕ) (counts : List ℕ) where
   abbrev Within : ℕ → Type 0
   Within v = (v ≡ missing) ⊎ (v ≤ topScore)
 
-  score-within : (slot : ℕ) → Within (scoreIn kind counts (length counts) slot)
-  unfolding scoreIn
+  score-within : (slot : ℕ) → Within (scoreAmong kind counts (length counts) slot)
+  unfolding scoreAmong
   score-within slot = go (decLt j n)
     where
       n : ℕ
@@ -65,7 +66,7 @@ module _ (kind : ℕ) (counts : List ℕ) where
   unfolding inSlot
   slot-score slot = go (isVet kind) (total counts =? 0)
     where
-      go : (v z : Bool) → Within (pick v (vetIn slot) (pick z missing (scoreIn kind counts (length counts) slot)))
+      go : (v z : Bool) → Within (pick v (vetIn slot) (pick z missing (scoreAmong kind counts (length counts) slot)))
       go true z = vet-within slot
       go false true = inl refl
       go false false = score-within slot
@@ -75,10 +76,10 @@ module _ (kind : ℕ) (counts : List ℕ) where
   unfolding inSlot
   slot-scored j l h some = go (isVet kind) refl
     where
-      own : scoreIn kind counts (length counts) (slotFor kind j) ≡ score counts j
+      own : scoreAmong kind counts (length counts) (slotFor kind j) ≡ score counts j
       own = in-own kind counts (length counts) j (omega arith) h
 
-      go : (v : Bool) → isVet kind ≡ v → pick v (vetIn (slotFor kind j)) (pick (total counts =? 0) missing (scoreIn kind counts (length counts) (slotFor kind j))) ≡ score counts j
+      go : (v : Bool) → isVet kind ≡ v → pick v (vetIn (slotFor kind j)) (pick (total counts =? 0) missing (scoreAmong kind counts (length counts) (slotFor kind j))) ≡ score counts j
       go true e = let none : asked kind ≡ 0 = ap asked (eqb-true kind vet e) in absurd (omega arith)
       go false e = rw (ne-eqb (total counts) 0 (λ z. omega arith)) own
 
@@ -87,12 +88,12 @@ module _ (kind : ℕ) (counts : List ℕ) where
   unfolding inSlot
   slot-own j l h = go (isVet kind) refl (total counts =? 0)
     where
-      own : scoreIn kind counts (length counts) (slotFor kind j) ≡ score counts j
+      own : scoreAmong kind counts (length counts) (slotFor kind j) ≡ score counts j
       own = in-own kind counts (length counts) j (omega arith) h
 
       go : (v : Bool) → isVet kind ≡ v → (z : Bool)
-          → (pick v (vetIn (slotFor kind j)) (pick z missing (scoreIn kind counts (length counts) (slotFor kind j))) ≡ missing)
-          ⊎ (pick v (vetIn (slotFor kind j)) (pick z missing (scoreIn kind counts (length counts) (slotFor kind j))) ≡ score counts j)
+          → (pick v (vetIn (slotFor kind j)) (pick z missing (scoreAmong kind counts (length counts) (slotFor kind j))) ≡ missing)
+          ⊎ (pick v (vetIn (slotFor kind j)) (pick z missing (scoreAmong kind counts (length counts) (slotFor kind j))) ≡ score counts j)
       go true e z = let none : asked kind ≡ 0 = ap asked (eqb-true kind vet e) in absurd (omega arith)
       go false e true = inl refl
       go false e false = inr own

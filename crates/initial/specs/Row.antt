@@ -21,19 +21,19 @@ asked kind = if isGeneral kind then slots else if isApplied kind then length app
 abbrev pub slotFor : ℕ → ℕ → ℕ
 slotFor kind j = if isApplied kind then getD appliedSlots j 0 else j + 1
 
--- what a slot holds: the score of the result that goes there; missing, where none of the n results does
-unfoldable pub scoreIn : ℕ → List ℕ → ℕ → ℕ → ℕ
-scoreIn kind counts n slot =
-    let j = first n (λ i. slotFor kind i =? slot) in
-    if j <? n then score counts j else missing
+-- what a slot holds: the score of the result that goes there; missing, where none does
+unfoldable pub scoreIn : ℕ → List ℕ → ℕ → ℕ
+scoreIn kind counts slot =
+    let j = first (length counts) (λ i. slotFor kind i =? slot) in
+    if j <? length counts then score counts j else missing
 
 -- VET takes no counts and gets 50.00 in slot 1, the rest missing
 abbrev pub vetIn : ℕ → ℕ
 vetIn slot = if slot =? 1 then 50 * scoreParts else missing
 
--- the row of a kind and its counts, of all their results; with a total of 0 it is missing
+-- the row of a kind and its counts; with a total of 0 it is missing
 unfoldable pub rowFor : ℕ → List ℕ → List ℕ
 rowFor kind counts =
     if isVet kind then rowOf vetIn
     else if total counts =? 0 then missingRow
-    else rowOf (scoreIn kind counts (length counts))
+    else rowOf (scoreIn kind counts)

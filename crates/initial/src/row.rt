@@ -3,8 +3,8 @@ ghost use mathlib.Core.Path.{_≡_};
 ghost use Prim.Native.Nat.{_<_};
 ghost use lib.ListN.{length};
 ghost use Rattle.scores.specs.Rows.{rowOf, missingRow};
-ghost use Rattle.initial.specs.Row.{asked, slotFor, scoreIn, rowFor};
-ghost use Rattle.initial.specs.Inner.{Writable};
+ghost use Rattle.initial.specs.Row.{asked, slotFor, rowFor};
+ghost use Rattle.initial.specs.Inner.{Writable, scoreAmong};
 use catalogue::kinds;
 use paper::limits::SCORE_PARTS;
 use paper::limits::SLOTS;
@@ -45,7 +45,7 @@ fn slot_for(kind: u8, j: usize) -> Raw
 // Writes the score of each result, with what is below it summed on the way.
 fn write(kind: u8, counts: &[u32], total: u64, row: &mut [u8])
     requires { ⌜ Writable kind (now counts) total (now row) × (0 < total) × (now row ≡ missingRow) ⌝ }
-    ensures { λ _. ⌜ now (row .exit) ≡ rowOf (scoreIn kind (now (counts .entry)) (length (now (counts .entry)))) ⌝ }
+    ensures { λ _. ⌜ now (row .exit) ≡ rowOf (scoreAmong kind (now (counts .entry)) (length (now (counts .entry)))) ⌝ }
 {
     let mut below: u64 = 0;
     let mut j: usize = 0;

@@ -1,4 +1,5 @@
-use Rattle.initial.specs.Row.{rowFor}
+use Rattle.initial.specs.Row.{scoreIn, rowFor}
+use Rattle.initial.specs.Inner.{scoreAmong}
 use Rattle.scores.specs.Rows.{missingRow, stored}
 use Rattle.scores.proofs.Slotted.{missing-row, row-cleared, row-stored}
 use Rattle.paper.specs.Limits.{scoreParts, missing}
@@ -57,7 +58,7 @@ same-length-2 : tie.Need-same-length-2
 same-length-2 c = search needs
 
 returns-2 : tie.Need-returns-2
-unfolding rowFor
+unfolding rowFor scoreIn scoreAmong
 returns-2 c =
     let w = c .before .before in
     let some = w .before .before in

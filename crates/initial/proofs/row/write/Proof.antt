@@ -1,5 +1,6 @@
 use Rattle.initial.specs.Counts.{below as under, total as sumOf, score}
-use Rattle.initial.specs.Row.{asked, slotFor, scoreIn}
+use Rattle.initial.specs.Row.{asked, slotFor}
+use Rattle.initial.specs.Inner.{scoreAmong}
 use Rattle.initial.proofs.Rising.{below-next, score-most}
 use Rattle.initial.proofs.Slotting.{slot-within, in-none, row-next}
 use Rattle.scores.specs.Rows.{rowOf, stored}
@@ -22,7 +23,7 @@ use Rattle.scores.proofs.rows.store.Reads as store-reads
 
 -- the results passed are summed below, and stand in their slots; the other slots are missing
 abbrev Inv-loop : tie.InvT-loop
-Inv-loop kind counts total row₀ below₀ j₀ row below j = (j ≤ length counts) × (below ≡ under counts j) × (row ≡ rowOf (scoreIn kind counts j))
+Inv-loop kind counts total row₀ below₀ j₀ row below j = (j ≤ length counts) × (below ≡ under counts j) × (row ≡ rowOf (scoreAmong kind counts j))
 
 abbrev μ-loop : tie.MeasureT-loop
 μ-loop kind counts total row₀ below₀ j₀ row below j = length counts - j
@@ -122,10 +123,10 @@ loop-again c =
     let j = d .loop .j in
     let h = inside (n .before) in
     let w = slot-within (a .kind) j h in
-    let row' : put .store .last .0 ≡ rowOf (scoreIn (a .kind) (a .counts .now) (j + 1)) =
+    let row' : put .store .last .0 ≡ rowOf (scoreAmong (a .kind) (a .counts .now) (j + 1)) =
     put .store .ensures
     ∙ (λ i. stored (d .loop .inv .2 i) 0 (put .before .slot-for .ensures i) (scored n i))
-    ∙ row-stored (scoreIn (a .kind) (a .counts .now) j) (slotFor (a .kind) j) (score (a .counts .now) j) (w .0) (w .1)
+    ∙ row-stored (scoreAmong (a .kind) (a .counts .now) j) (slotFor (a .kind) j) (score (a .counts .now) j) (w .0) (w .1)
     ∙ row-next (a .kind) (a .counts .now) j h in
     (omega arith, omega (arith, sum-step j (λ i. getD (a .counts .now) i 0), n .before .wide32 .ensures .0), row')
 
@@ -133,14 +134,14 @@ same-length : tie.Need-same-length Inv-loop μ-loop
 same-length c =
     let d = c .before in
     let a = given d .args in
-    omega (arith, ap length (d .loop .inv .2), length-row (scoreIn (a .kind) (a .counts .now) (d .loop .j)), given d .pre .0 .whole)
+    omega (arith, ap length (d .loop .inv .2), length-row (scoreAmong (a .kind) (a .counts .now) (d .loop .j)), given d .pre .0 .whole)
 
 returns : tie.Need-returns Inv-loop μ-loop
 returns c =
     let d = c .before in
     let a = given d .args in
     let e : d .loop .j ≡ length (a .counts .now) = omega arith in
-    d .loop .inv .2 ∙ ap (λ (n : ℕ). rowOf (scoreIn (a .kind) (a .counts .now) n)) e
+    d .loop .inv .2 ∙ ap (λ (n : ℕ). rowOf (scoreAmong (a .kind) (a .counts .now) n)) e
 
 pub write-spec : {M : Type 1} → statement M
 write-spec =
