@@ -60,6 +60,11 @@ struct shtegomir_best {
 
 /* Finds the five results of a student that count for most.
  *
+ * A result is usable if it is of kinds 1 to 4, or VET with 'Y' and level 3 or more; of any year. English is shown by a usable result of
+ * strand 1 with 'A', 'B' or 'C', of any year. A set is admissible if it has five usable results, of a subject none but that of the latest
+ * year; at least four of kinds 1 to 3; not both one of these and an Applied of English, nor both of Mathematics; no two of kinds 1 or 3
+ * with one identity; and its latest year exceeds its earliest by at most four. These years need not be near the assessment year.
+ *
  *   catalogue  5 bytes to a subject, at most 64 subjects:
  *                kind      1 General, 2 General extension, 3 Senior External Examination, 4 Applied, 5 short course, 6 VET
  *                strand    0 none, 1 English, 2 Mathematics; 0 for kinds 5 and 6
@@ -89,9 +94,9 @@ struct shtegomir_best {
  *       for each result in turn, at its index:
  *    3  subject not in the catalogue
  *    4  letter, number or year wrong for the kind
- *    5  usable, with a slot that is missing or over 10000
+ *    5  usable, however old, with a slot that is missing or over 10000
  *       of all results:
- *    6  two usable of one subject and year: the index of the later one
+ *    6  two usable of one subject and year, however old: the index of the later one
  *    7  no English: 0
  *    8  no admissible set: 0
  */

@@ -98,8 +98,8 @@ static void make_catalogue(void)
     memcpy(catalogue + 5 * 13, (const uint8_t[]){3, 0, 0, 0, 5, 4, 2, 0, 0, 0, 6, 0, 3, 0, 0}, 15);
 }
 
-/* English first, then other subjects by chance. */
-static void make_students(size_t count)
+/* English first, then other subjects by chance; all of 2021, or of that year and those before it by chance. */
+static void make_students(size_t count, uint32_t years)
 {
     results_len = 6 * count;
     for (int s = 0; s < STUDENTS; s++) {
@@ -113,8 +113,8 @@ static void make_students(size_t count)
             order[j] = moved;
         }
         for (size_t i = 0; i < count; i++) {
-            unsigned kind = catalogue[5 * order[i]];
-            const uint8_t result[6] = {0, order[i], (uint8_t)(kind == 6 ? 'Y' : 'A' + next(3)), (uint8_t)(kind > 3 ? 0 : 1 + next(100)), 2021 / 256, 2021 % 256};
+            unsigned kind = catalogue[5 * order[i]], letter = kind == 6 ? 'Y' : 'A' + next(3), number = kind > 3 ? 0 : 1 + next(100), year = 2021 - next(years);
+            const uint8_t result[6] = {0, order[i], (uint8_t)letter, (uint8_t)number, (uint8_t)(year / 256), (uint8_t)(year % 256)};
             memcpy(results[s] + 6 * i, result, 6);
         }
     }
@@ -132,18 +132,24 @@ static void sets_by_c(void)
         sets_plain[s] = plain_best_set(catalogue, sizeof catalogue, scores, sizeof scores, 2021, results[s], results_len);
 }
 
+static void race_students(const char *job, size_t count, uint32_t years)
+{
+    make_students(count, years);
+    race(job, count, sets_by_proof, sets_by_c, STUDENTS);
+    for (int s = 0; s < STUDENTS; s++) {
+        same("refusals", &sets[s].refusal, &sets_plain[s].refusal, sizeof sets[s].refusal);
+        same("aggregates", &sets[s].aggregate, &sets_plain[s].aggregate, sizeof sets[s].aggregate);
+        same("sets", &sets[s].set, &sets_plain[s].set, sizeof sets[s].set);
+    }
+}
+
 static void race_best_sets(void)
 {
+    static const char *job = "best set, results";
     make_catalogue();
-    for (int i = 0; i < 4; i++) {
-        make_students((const size_t[]){5, 8, 12, 16}[i]);
-        race("best set, results", results_len / 6, sets_by_proof, sets_by_c, STUDENTS);
-        for (int s = 0; s < STUDENTS; s++) {
-            same("refusals", &sets[s].refusal, &sets_plain[s].refusal, sizeof sets[s].refusal);
-            same("aggregates", &sets[s].aggregate, &sets_plain[s].aggregate, sizeof sets[s].aggregate);
-            same("sets", &sets[s].set, &sets_plain[s].set, sizeof sets[s].set);
-        }
-    }
+    for (int i = 0; i < 4; i++)
+        race_students(job, (const size_t[]){5, 8, 12, 16}[i], 1);
+    race_students("best set, results over nine years", 16, 9);
 }
 
 /* ---- The curve ---- */
@@ -328,7 +334,7 @@ static void race_reports(void)
     race_report("report, students of 5 results", 512);
     refuse_all();
     race_report("report, refused students of 5 results", 512);
-    make_students(16);
+    make_students(16, 1);
     race_report("report, students of 16 results", make_full_file());
 }
 

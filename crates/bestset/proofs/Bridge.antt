@@ -1,13 +1,13 @@
 -- The sets that the search allows, over what is read of the results, are the paper's admissible sets; and what the search finds is what the promise asks.
 use Prim.Native.Nat.{ℕ, zero, suc, _+_, _/_, _%_, _≤_, _<_}
-use native.Mathlib.Decide.{ℕ-discrete}
+use native.Mathlib.Decide.{decLe, decLt, ℕ-discrete}
 use native.Mathlib.Omega.{arith}
 use mathlib.Core.Path.{_≡_, refl, sym, ap, ap₂, subst, _∙_}
-use mathlib.Core.Bool.{Bool, true, false, not, _&&_}
+use mathlib.Core.Bool.{Bool, true, false, not, _&&_, _||_, or-true}
 use mathlib.Core.Logic.{_⊎_, inl, inr, ⊎-elim}
 use mathlib.Core.List.{List, [], _∷_, _++_}
 use borrow.Author.Tests.{ltb-true, ltb-false, leb-false, eqb-true, ne-eqb, lt-ltb, le-ltb}
-use Rattle.paper.specs.Limits.{mostResults, topScore}
+use Rattle.paper.specs.Limits.{mostResults, mostSpan, topScore}
 use Rattle.paper.specs.Lists.{pick, first, some}
 use Rattle.paper.specs.Rulings.{Outcome, accepted, refused, _⇒_, _at_, judged}
 use Rattle.paper.specs.Refusals.{fault}
@@ -21,7 +21,7 @@ use Rattle.catalogue.specs.Kinds.{english, mathematics, general, externalExamin
 use Rattle.catalogue.proofs.Promised.{kept-sound}
 use Rattle.seek.specs.Sets.{In, has, onesFrom, positions, sumOver, countOver, comesTo}
 use Rattle.seek.specs.InnerPacking.{valueIn, valueAt}
-use Rattle.seek.specs.InnerTest.{Apart, Distinct, Allowed, Answers}
+use Rattle.seek.specs.InnerTest.{Apart, Distinct, Near, Allowed, Answers}
 use Rattle.seek.specs.InnerSearch.{Sought}
 use Rattle.seek.specs.declared.packing.Packed.{Packed}
 use Rattle.seek.specs.declared.search.Test.{Test}
@@ -33,11 +33,11 @@ use Rattle.results.specs.Results.{Student, held, result}
 use Rattle.results.specs.Scoring.{ownIdentity, scoreAt, identityAt}
 use Rattle.results.specs.Counting.{generalAt, appliedAt, strandAt, usable, usableAt, showsEnglish, later, kept}
 use Rattle.results.proofs.Scores.{score-most}
-use Rattle.bestset.specs.Admissible.{NotBoth, identified, OneEach, Admissible}
+use Rattle.bestset.specs.Admissible.{NotBoth, identified, OneEach, FiveYears, Admissible}
 use Rattle.bestset.specs.Rules.{resultRules, inputRules, turnRules, repeated, repeatRule, studentRules}
 use Rattle.bestset.specs.Promise.{Values, WellFormed, ruling, Answered, RuledBy, Ruled, Promise}
 use Rattle.bestset.specs.InnerJudging.{readRules, Readable}
-use Rattle.bestset.specs.InnerMarks.{MaskOf, ByPosition, AllRead, keptIn, repeatedIn}
+use Rattle.bestset.specs.InnerMarks.{MaskOf, ByPosition, AllRead, keptIn, repeatedIn, tooFar, farIn, FarBefore}
 use Rattle.bestset.specs.declared.Answer.the-variants.{Refused}
 use Rattle.bestset.specs.declared.marks.Read.{Read}
 use Rattle.bestset.proofs.Judging.{judges, read-refused, repeat-left}
@@ -137,6 +137,41 @@ each-distinct s set d i j l p q =
 same-distinct : (f g : ℕ → ℕ) (set : ℕ) → ((i : ℕ) → In i set → f i ≡ g i) → Distinct f set → Distinct g set
 same-distinct f g set e d i j l p q h = sym (e i p) ∙ d i j l p q (e i p ∙ h ∙ sym (e j q))
 
+-- ---- all within five years
+
+-- of two years that are too far from each other the one exceeds the other by more than four
+far-apart : (a b : ℕ) → tooFar a b ≡ true → (a + mostSpan < b) ⊎ (b + mostSpan < a)
+far-apart a b e = go ((a + mostSpan) <? b) refl e
+  where
+    go : (t : Bool) → ((a + mostSpan) <? b) ≡ t → (t || (b + mostSpan) <? a) ≡ true → (a + mostSpan < b) ⊎ (b + mostSpan < a)
+    go true p q = inl (ltb-true _ _ p)
+    go false p q = inr (ltb-true _ _ q)
+
+after-far : (a b : ℕ) → a + mostSpan < b → tooFar a b ≡ true
+after-far a b l = ap (λ (t : Bool). t || (b + mostSpan) <? a) (lt-ltb _ _ l)
+
+before-far : (a b : ℕ) → b + mostSpan < a → tooFar a b ≡ true
+before-far a b l = ap (λ (t : Bool). (a + mostSpan) <? b || t) (lt-ltb _ _ l) ∙ or-true ((a + mostSpan) <? b)
+
+module _ (s : Student) (far : ℕ → ℕ) (m : (i : ℕ) → i < held s → MaskOf (farIn (s .results) i) i (far i)) (set : ℕ) where
+  near-years : ((i : ℕ) → In i set → i < held s) → Near far set → FiveYears s set
+  near-years within d i j p q = go (decLe (result s j .year) (result s i .year + mostSpan)) (decLt i j) (decLt j i)
+    where
+      go : Dec (result s j .year ≤ result s i .year + mostSpan) → Dec (i < j) → Dec (j < i) → result s j .year ≤ result s i .year + mostSpan
+      go (yes l) a b = l
+      go (no n) (yes a) b = absurd (d j i q p (m j (within j q) .whole i a (before-far (result s j .year) (result s i .year) (omega arith))))
+      go (no n) (no a) (yes b) = absurd (d i j p q (m i (within i p) .whole j b (after-far (result s i .year) (result s j .year) (omega arith))))
+      go (no n) (no a) (no b) =
+          let e : i ≡ j = omega arith in
+          absurd (n (subst (λ (k : ℕ). result s k .year ≤ result s i .year + mostSpan) e (omega arith)))
+
+  years-near : ((i : ℕ) → In i set → i < held s) → FiveYears s set → Near far set
+  years-near within d i j p q f =
+      ⊎-elim
+      (λ (l : result s i .year + mostSpan < result s j .year). omega (arith, d i j p q))
+      (λ (l : result s j .year + mostSpan < result s i .year). omega (arith, d j i q p))
+      (far-apart _ _ (m i (within i p) .sound j f))
+
 -- ---- the admissible sets
 
 -- what the test of a set reads is of this student
@@ -148,6 +183,7 @@ pub record TestOf (s : Student) (test : Test) : Type 0 where
   pub general-maths : MaskOf (λ i. generalAt s i && strandAt mathematics s i) (held s) (test .«general_maths»)
   pub applied-maths : MaskOf (λ i. appliedAt s i && strandAt mathematics s i) (held s) (test .«applied_maths»)
   pub identities-are : (i : ℕ) → i < held s → valueIn (test .identities) i ≡ identityAt s i
+  pub far-are : (i : ℕ) → i < held s → MaskOf (farIn (s .results) i) i (valueIn (test .far) i)
 
 module _ (s : Student) (test : Test) (m : TestOf s test) where
   pub allowed-admissible : (table : List ℕ) → WellFormed s table → (set : ℕ) → Allowed test set → Admissible s set
@@ -162,6 +198,7 @@ module _ (s : Student) (test : Test) (m : TestOf s test) where
         englishes = apart-not-both english s _ _ _ set (m .general-english) (m .applied-english) within (a .english);
         maths = apart-not-both mathematics s _ _ _ set (m .general-maths) (m .applied-maths) within (a .maths);
         identities = distinct-each s table w set each (same-distinct _ _ set (λ i p. m .identities-are i (within i p)) (a .distinct));
+        years = near-years s _ (m .far-are) set within (a .near);
       }
 
   pub admissible-allowed : (set : ℕ) → Admissible s set → Allowed test set
@@ -174,11 +211,12 @@ module _ (s : Student) (test : Test) (m : TestOf s test) where
         english = not-both-apart english s _ _ _ set (m .general-english) (m .applied-english) (a .englishes);
         maths = not-both-apart mathematics s _ _ _ set (m .general-maths) (m .applied-maths) (a .maths);
         distinct = same-distinct _ _ set (λ i p. sym (m .identities-are i (kept-held s i (a .each i p)))) (each-distinct s set (a .identities));
+        near = years-near s _ (m .far-are) set (λ i p. kept-held s i (a .each i p)) (a .years);
       }
 
 -- the test that is made of what is read
-abbrev pub testOf : Read → ℕ → Packed → Test
-testOf read kept identities = record {
+abbrev pub testOf : Read → ℕ → Packed → Packed → Test
+testOf read kept identities far = record {
   kept = kept;
   general = read .masks .general;
   «general_english» = read .masks .«general_english»;
@@ -186,11 +224,13 @@ testOf read kept identities = record {
   «general_maths» = read .masks .«general_maths»;
   «applied_maths» = read .masks .«applied_maths»;
   identities = identities;
+  far = far;
 }
 
-pub test-of : (s : Student) (table : List ℕ) (read : Read) (mask : ℕ) (packed : Packed) → held s ≤ mostResults → AllRead s table read
-    → MaskOf (keptIn (s .results) (read .masks .usable)) (held s) mask → ((i : ℕ) → i < mostResults → valueIn packed i ≡ valueAt (read .identities) i) → TestOf s (testOf read mask packed)
-test-of s table read mask packed few a k e =
+pub test-of : (s : Student) (table : List ℕ) (read : Read) (mask : ℕ) (packed others : Packed) (masks : List ℕ) → held s ≤ mostResults → AllRead s table read
+    → MaskOf (keptIn (s .results) (read .masks .usable)) (held s) mask → ((i : ℕ) → i < mostResults → valueIn packed i ≡ valueAt (read .identities) i)
+    → FarBefore (s .results) masks → ((i : ℕ) → i < mostResults → valueIn others i ≡ valueAt masks i) → TestOf s (testOf read mask packed others)
+test-of s table read mask packed others masks few a k e far g =
     let m = a .masks-are in
     record {
       kept-are = subst (λ (f : ℕ → Bool). MaskOf f (held s) mask) (kept-is s (read .masks .usable) (m .usable-are)) k;
@@ -200,6 +240,7 @@ test-of s table read mask packed few a k e =
       general-maths = m .general-maths;
       applied-maths = m .applied-maths;
       identities-are = λ i l. e i (omega arith) ∙ a .identities-are .each i l;
+      far-are = λ i l. subst (MaskOf (farIn (s .results) i) i) (sym (g i (omega arith))) (far i l);
     }
 
 -- ---- what the search finds
@@ -248,7 +289,7 @@ module _ (s : Student) (table : List ℕ) where
   promise-refused x e = formed-refused x (read-refused s table (fault x) e)
 
   -- 6, or the student is well-formed
-  module _ (read : Readable s table) (mask : ℕ) (h : MaskOf (λ i. usable (s .year) (result s i)) (held s) mask) where
+  module _ (read : Readable s table) (mask : ℕ) (h : MaskOf (λ i. usable (result s i)) (held s) mask) where
     again-is : first (held s) (repeatedIn (s .results) mask) ≡ first (held s) (repeated s)
     again-is = ap (first (held s)) (repeated-is s mask h)
 

@@ -45,18 +45,15 @@ pub outside-five : best english10 ≡ gives 25000 62
 unfolding slots first word inTurn outside found slotOf onesFrom sumOver countOver scoreFound score usable usableAt showsEnglish kept wrong unscored repeated admissible earlier chosen
 outside-five = refl
 
--- a subject with its external examination: one of the two; a D is no pass; 2017 counts and 2016 does not; the later of two results of a
--- subject counts, and a C since repeated with a D still serves; a Certificate III counts, a Certificate II does not
+-- a subject with its external examination: one of the two; a D is no pass; the later of two results of a subject counts, and a C since repeated with a D still serves; a Certificate III counts, a Certificate II does not
 pub rules : (best (result 0 letterB 50 (result 1 letterB 90 (result 2 letterB 95 (three [])))) ≡ gives 29500 61)
     × (best (result 0 letterD 50 (result 1 letterB 90 (three []))) ≡ refused (7 at 0))
-    × (best (dated 0 letterC 50 2016 (result 1 letterB 90 (three []))) ≡ refused (7 at 0))
-    × (best (dated 0 letterC 50 2017 (result 1 letterB 90 (three []))) ≡ gives 29000 31)
     × (best (result 0 letterC 50 (dated 1 letterB 90 2020 (result 1 letterB 40 (three [])))) ≡ gives 24000 61)
     × (best (dated 0 letterC 90 2020 (result 0 letterD 50 (result 1 letterB 40 (three [])))) ≡ gives 24000 62)
     × (best (result 0 letterC 50 (result 6 letterY 0 (three []))) ≡ gives 27000 31)
     × (best (result 0 letterC 50 (result 7 letterY 0 (three []))) ≡ refused (8 at 0))
 unfolding slots first word inTurn outside found slotOf onesFrom sumOver countOver scoreFound score usable usableAt showsEnglish kept wrong unscored repeated admissible earlier chosen
-rules = (refl, refl, refl, refl, refl, refl, refl, refl)
+rules = (refl, refl, refl, refl, refl, refl)
 
 -- 1 of the catalogue before all else; 11 before 14; 14 before the results' 1; 2 at 16; of two results 3, 4, 5 in turn; 6 at the later one
 pub refusals : (computed (student (0 ∷ []) 0 []) [] ≡ refused (1 at 0)) × (computed (student catalogue2 0 (0 ∷ [])) [] ≡ refused (11 at 0))

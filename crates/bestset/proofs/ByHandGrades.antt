@@ -54,9 +54,9 @@ pub end-years : (those 1975 15 (dates 1984 1 letterA 50) ≡ 1980 ∷ 1981 ∷ 1
 unfolding wrong
 end-years = (refl, refl, refl, refl)
 
--- what the slot holds, kind, level, letter, number, year: in 2021 a usable result without a score
+-- what the slot holds, kind, level, letter, number, year: a usable result without a score
 abbrev pub lacks : ℕ → ℕ → ℕ → ℕ → ℕ → ℕ → Bool
-lacks value kind level letter number year = unscored (oneScore 1 value) 2021 (read 0 letter number year kind 0 level 0)
+lacks value kind level letter number year = unscored (oneScore 1 value) (read 0 letter number year kind 0 level 0)
 
 -- a missing slot or one over 10000: a General of number 1, a Certificate III with Y
 pub slots-lacking : (lacks 0 1 0 letterA 1 2021 ≡ false) × (lacks 10000 1 0 letterA 1 2021 ≡ false) × (lacks 10001 1 0 letterA 1 2021 ≡ true) × (lacks 65534 1 0 letterA 1 2021 ≡ true)
@@ -69,8 +69,8 @@ pub own-slot : (lacks 5000 2 0 letterA 1 2021 ≡ false) × (lacks 5000 2 0 lett
 unfolding unscored usable scoreFound found slotOf slots word
 own-slot = (refl, refl, refl, refl, refl)
 
--- asked of usable results only: not of a short course, of VET with N, of a Certificate II, of a General of 2016; of one of 2017 it is
-pub usable-only : (lacks missing 5 0 letterA 0 2021 ≡ false) × (lacks missing 6 3 letterN 0 2021 ≡ false) × (lacks missing 6 2 letterY 0 2021 ≡ false) × (lacks missing 1 0 letterA 1 2016 ≡ false)
-    × (lacks missing 1 0 letterA 1 2017 ≡ true)
+-- asked of usable results only: not of a short course, of VET with N, of a Certificate II; of a General of any year, of 2021, 2016 and 1980
+pub usable-only : (lacks missing 5 0 letterA 0 2021 ≡ false) × (lacks missing 6 3 letterN 0 2021 ≡ false) × (lacks missing 6 2 letterY 0 2021 ≡ false) × (lacks missing 1 0 letterA 1 2021 ≡ true)
+    × (lacks missing 1 0 letterA 1 2016 ≡ true) × (lacks missing 1 0 letterA 1 1980 ≡ true) × (lacks 5000 1 0 letterA 1 1980 ≡ false)
 unfolding unscored usable scoreFound found slotOf slots word
-usable-only = (refl, refl, refl, refl, refl)
+usable-only = (refl, refl, refl, refl, refl, refl, refl)

@@ -86,29 +86,32 @@ pub in-turn : (in2021 (slotless (unknown [])) ≡ refused (5 at 0)) × (in2021 (
 unfolding first word outside inTurn repeated usableAt showsEnglish usable wrong unscored scoreFound found slotOf
 in-turn = (refl, refl, refl, refl, refl, refl, refl)
 
--- 5 of a result that was replaced and has no slot; of one of 2016 there is none
-pub replaced : (in2021 (took 0 letterC 3 2020 (good [])) ≡ refused (5 at 0)) × (in2021 (took 0 letterC 3 2017 (good [])) ≡ refused (5 at 0)) × (in2021 (took 0 letterC 3 2016 (good [])) ≡ accepted tt)
+-- 5 of a result that was replaced and has no slot, however old it is; with its slot it is accepted
+pub replaced : (in2021 (took 0 letterC 3 2020 (good [])) ≡ refused (5 at 0)) × (in2021 (took 0 letterC 3 2016 (good [])) ≡ refused (5 at 0)) × (in2021 (good (took 0 letterC 3 1980 [])) ≡ refused (5 at 1))
+    × (in2021 (good (took 0 letterC 2 1980 [])) ≡ accepted tt)
 unfolding first word outside inTurn repeated usableAt showsEnglish usable wrong unscored scoreFound found slotOf
-replaced = (refl, refl, refl)
+replaced = (refl, refl, refl, refl)
 
--- 5 of any result before 6
+-- 5 of any result before 6, of old ones too
 pub five-before-six : (in2021 (slotless (slotless [])) ≡ refused (5 at 0)) × (in2021 (took 1 letterC 1 2021 (slotless [])) ≡ refused (5 at 1)) × (in2021 (good (good (slotless []))) ≡ refused (5 at 2))
+    × (in2021 (took 1 letterC 1 1990 (took 1 letterC 1 1990 (took 0 letterC 3 1991 []))) ≡ refused (5 at 2))
 unfolding first word outside inTurn repeated usableAt showsEnglish usable wrong unscored scoreFound found slotOf
-five-before-six = (refl, refl, refl)
+five-before-six = (refl, refl, refl, refl)
 
--- 6: two usable results of one subject and year, the later one, and of two such the lower; another year or subject, be its entry the same, a short course, VET with N, 2016 are none
+-- 6: two usable results of one subject and year, the later one, and of two such the lower; another year or subject, be its entry the same, a short course, VET with N are none;
+-- of old years as of new ones
 pub twice : (in2021 (good (good [])) ≡ refused (6 at 1)) × (in2021 (good (took 1 letterC 1 2021 (took 1 letterC 2 2021 (good [])))) ≡ refused (6 at 2)) × (in2021 (good (took 0 letterC 1 2020 [])) ≡ accepted tt)
     × (in2021 (good (took 1 letterC 1 2021 [])) ≡ accepted tt) × (in2021 (good (took 3 letterC 0 2021 (took 3 letterC 0 2021 []))) ≡ accepted tt)
-    × (in2021 (good (took 2 letterN 0 2021 (took 2 letterN 0 2021 []))) ≡ accepted tt) × (in2021 (good (took 1 letterC 1 2016 (took 1 letterC 1 2016 []))) ≡ accepted tt)
-    × (in2021 (good (took 1 letterC 1 2017 (took 1 letterC 1 2017 []))) ≡ refused (6 at 2)) × (in2021 (good (took 2 letterY 0 2021 (took 2 letterY 0 2021 []))) ≡ refused (6 at 2))
+    × (in2021 (good (took 2 letterN 0 2021 (took 2 letterN 0 2021 []))) ≡ accepted tt) × (in2021 (good (took 1 letterC 1 2016 (took 1 letterC 1 2016 []))) ≡ refused (6 at 2))
+    × (in2021 (good (took 1 letterC 1 1980 (took 1 letterC 2 1980 []))) ≡ refused (6 at 2)) × (in2021 (good (took 1 letterC 1 1980 (took 1 letterC 2 1981 []))) ≡ accepted tt) × (in2021 (good (took 2 letterY 0 2021 (took 2 letterY 0 2021 []))) ≡ refused (6 at 2))
     × (in2021 (good (took 2 letterY 0 2021 (took 2 letterN 0 2021 []))) ≡ accepted tt) × (in2021 (good (took 2 letterN 0 2021 (took 2 letterY 0 2021 []))) ≡ accepted tt)
     × (ruling (student (biology 2) 2021 (took 0 letterC 1 2021 (took 1 letterC 1 2021 []))) (replicate 400 0) ≡ refused (7 at 0))
 unfolding first word outside inTurn repeated usableAt showsEnglish usable wrong unscored scoreFound found slotOf
-twice = (refl, refl, refl, refl, refl, refl, refl, refl, refl, refl, refl, refl)
+twice = (refl, refl, refl, refl, refl, refl, refl, refl, refl, refl, refl, refl, refl)
 
--- 6 before 7; and a student without English is well-formed
-pub six-before-seven : (in2021 (took 0 letterD 1 2021 (took 0 letterD 1 2021 [])) ≡ refused (6 at 1)) × (in2021 (took 0 letterD 1 2021 []) ≡ refused (7 at 0)) × (in2021 (took 1 letterA 1 2021 []) ≡ refused (7 at 0))
+-- 6 before 7, of old results too; and a student without English is well-formed
+pub six-before-seven : (in2021 (took 0 letterD 1 2021 (took 0 letterD 1 2021 [])) ≡ refused (6 at 1)) × (in2021 (took 0 letterD 1 1990 (took 0 letterD 1 1990 [])) ≡ refused (6 at 1)) × (in2021 (took 0 letterD 1 2021 []) ≡ refused (7 at 0)) × (in2021 (took 1 letterA 1 2021 []) ≡ refused (7 at 0))
     × (judged (studentRules (student (biology 1) 2021 (took 0 letterA 1 2021 [])) (replicate 200 0)) (tt {0}) ≡ accepted tt)
     × (ruling (student (biology 1) 2021 (took 0 letterA 1 2021 [])) (replicate 200 0) ≡ refused (7 at 0))
 unfolding first word outside inTurn repeated usableAt showsEnglish usable wrong unscored scoreFound found slotOf
-six-before-seven = (refl, refl, refl, refl, refl)
+six-before-seven = (refl, refl, refl, refl, refl, refl)

@@ -1,19 +1,19 @@
 -- The test of a set decides whether it is admissible.
-use Prim.Native.Nat.{ℕ, _<_, _^_}
+use Prim.Native.Nat.{ℕ, _+_, _<_, _≤_, _^_}
 use mathlib.Core.Path.{_≡_, refl, sym, _∙_}
 use mathlib.Core.Bool.{Bool, true, false, not, _&&_, true≢false}
 use lib.ListN.{length}
-use borrow.Author.Tests.{ltb-true, leb-true, eqb-true, lt-ltb, le-leb, eq-eqb, not-true}
+use borrow.Author.Tests.{ltb-true, ltb-false, leb-true, eqb-true, lt-ltb, le-ltb, le-leb, eq-eqb, not-true}
 use Rattle.paper.proofs.Booleans.{both-true, true-both, not-both, true-not}
 use Rattle.paper.proofs.Firsts.{some-has, some-at}
 use Rattle.seek.specs.Sets.{In, has, positions, countOver}
-use Rattle.paper.specs.Limits.{mostResults, members, leastGeneral}
+use Rattle.paper.specs.Limits.{mostResults, members, leastGeneral, mostSpan}
 use Rattle.paper.specs.Words.{_≤?_, _<?_, _=?_}
 use Rattle.catalogue.specs.Kinds.{english, mathematics}
 use Rattle.results.specs.Results.{Student, result}
 use Rattle.results.specs.Counting.{generalAt, appliedAt, strandAt, kept}
-use Rattle.bestset.specs.Admissible.{NotBoth, identified, OneEach, Admissible}
-use Rattle.bestset.specs.Computed.{someIn, both, shares, twice, admissible}
+use Rattle.bestset.specs.Admissible.{NotBoth, identified, OneEach, FiveYears, Admissible}
+use Rattle.bestset.specs.Computed.{someIn, both, shares, twice, beyond, scattered, admissible}
 use Rattle.seek.proofs.Digits.{in-lt}
 
 -- some member has f, or none has
@@ -72,6 +72,19 @@ module _ (s : Student) (set : ℕ) (w : set < 2 ^ mostResults) where
           let r = both-true (identified s j) (result s i .entry .identity =? result s j .entry .identity) (q .1) in
           h i j (ltb-true _ _ (q .0)) mi mj pi (r .0) (eqb-true _ _ (r .1))
 
+  -- all within five years
+  scattered-false : scattered s set ≡ false → FiveYears s set
+  scattered-false e i j mi mj = go (beyond s i j) refl
+    where
+      go : (b : Bool) → beyond s i j ≡ b → result s j .year ≤ result s i .year + mostSpan
+      go true z = absurd (no-member set (λ k. someIn set (beyond s k)) e w i mi (member-has set (beyond s i) w j mj z))
+      go false z = ltb-false _ _ z
+
+  false-scattered : FiveYears s set → scattered s set ≡ false
+  false-scattered h =
+      none-in set (λ k. someIn set (beyond s k))
+      (λ i mi t. let a = member-at set (beyond s i) t in true≢false (sym (a .2) ∙ le-ltb _ _ (h i (a .0) mi (a .1))))
+
   -- every member is kept
   each-kept : someIn set (λ i. not (kept s i)) ≡ false → (i : ℕ) → In i set → kept s i ≡ true
   each-kept e i m = go (kept s i) refl
@@ -91,7 +104,8 @@ test-admissible s set e =
     let c = both-true (not (someIn set (λ i. not (kept s i))) && leastGeneral ≤? (countOver (generalAt s) (positions set))) _ (a .1) in
     let d = both-true (not (someIn set (λ i. not (kept s i)))) (leastGeneral ≤? (countOver (generalAt s) (positions set))) (c .0) in
     let f = both-true (not (both english s set)) _ (c .1) in
-    let g = both-true (not (both mathematics s set)) (not (twice s set)) (f .1) in
+    let g = both-true (not (both mathematics s set)) _ (f .1) in
+    let h = both-true (not (twice s set)) (not (scattered s set)) (g .1) in
     let w : set < 2 ^ mostResults = ltb-true _ _ (b .0) in
     record {
       bits = w;
@@ -100,7 +114,8 @@ test-admissible s set e =
       four = leb-true _ _ (d .1);
       englishes = both-false s set w english (not-true _ (f .0));
       maths = both-false s set w mathematics (not-true _ (g .0));
-      identities = twice-false s set w (not-true _ (g .1));
+      identities = twice-false s set w (not-true _ (h .0));
+      years = scattered-false s set w (not-true _ (h .1));
     }
 
 pub admissible-test : (s : Student) (set : ℕ) → Admissible s set → admissible s set ≡ true
@@ -110,4 +125,5 @@ admissible-test s set h =
     true-both _ _ (true-both _ _ (lt-ltb _ _ w) (eq-eqb _ _ (h .five)))
     (true-both _ _ (true-both _ _ (true-not _ (kept-each s set w (h .each))) (le-leb _ _ (h .four)))
     (true-both _ _ (true-not _ (false-both s set w english (h .englishes)))
-    (true-both _ _ (true-not _ (false-both s set w mathematics (h .maths))) (true-not _ (false-twice s set w (h .identities))))))
+    (true-both _ _ (true-not _ (false-both s set w mathematics (h .maths)))
+    (true-both _ _ (true-not _ (false-twice s set w (h .identities))) (true-not _ (false-scattered s set w (h .years)))))))

@@ -3,6 +3,7 @@ pub mod ByHand
 pub mod ByHandGrades
 pub mod ByHandOrder
 pub mod ByHandSets
+pub mod ByHandYears
 pub mod Choosing
 pub mod Deciding
 pub mod Demand
@@ -14,3 +15,4 @@ pub mod Places
 pub mod Promised
 pub mod Scored
 pub mod Usable
+pub mod Years

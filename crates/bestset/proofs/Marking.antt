@@ -70,7 +70,7 @@ masked-none s =
     }
 
 -- one result more
-pub masked-one : (s : Student) (i : ℕ) (masks : Masks) → i < mostResults → Masked s i masks → Masked s (i + 1) (withOne masks i (s .year) (result s i))
+pub masked-one : (s : Student) (i : ℕ) (masks : Masks) → i < mostResults → Masked s i masks → Masked s (i + 1) (withOne masks i (result s i))
 masked-one s i masks h m =
     record {
       usable-are = one _ i _ h (m .usable-are) _ refl;

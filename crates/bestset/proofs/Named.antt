@@ -6,8 +6,9 @@ use Rattle.bestset.specs.Computed.{answer}
 use Rattle.bestset.specs.declared.Answer.{Answer}
 use Rattle.bestset.specs.declared.Answer.the-variants.{Accepted, Refused}
 use Rattle.paper.specs.declared.refusal.Refusal.the-variants.{NoSet}
-use Rattle.bestset.specs.Examples.{seven, eight, nine, table, catalogue2, table2, english10}
+use Rattle.bestset.specs.Examples.{seven, eight, nine, table, catalogue2, table2, english10, mature, renewed}
 use Rattle.bestset.proofs.ByHand.{students, outside-five}
+use Rattle.bestset.proofs.ByHandYears.{stretches, repeats}
 use Rattle.bestset.proofs.Meeting.{only}
 
 -- five highest first and rules after would refuse student 7
@@ -24,3 +25,15 @@ student-9 r h = only nine table h ∙ ap answer (students .2)
 -- English sought only in the five would refuse this student
 pub english-outside : (r : Answer) → Promise (student catalogue2 2021 english10) table2 r → r ≡ Accepted 25000 62
 english-outside r h = only (student catalogue2 2021 english10) table2 h ∙ ap answer outside-five
+
+-- a rule of the last years would refuse this student of 2012 to 2016
+pub mature-student : (r : Answer) → Promise (student catalogue2 2021 (mature 2012 2016)) table2 r → r ≡ Accepted 25000 31
+mature-student r h = only (student catalogue2 2021 (mature 2012 2016)) table2 h ∙ ap answer (stretches .0)
+
+-- six consecutive years would accept this one
+pub of-2011 : (r : Answer) → Promise (student catalogue2 2021 (mature 2011 2016)) table2 r → r ≡ Refused NoSet
+of-2011 r h = only (student catalogue2 2021 (mature 2011 2016)) table2 h ∙ ap answer (stretches .1)
+
+-- the latest of a subject within each stretch would accept this one
+pub of-repeat : (r : Answer) → Promise (student catalogue2 2021 (renewed 2021)) table2 r → r ≡ Refused NoSet
+of-repeat r h = only (student catalogue2 2021 (renewed 2021)) table2 h ∙ ap answer (repeats .3)

@@ -30,9 +30,9 @@ pub record Scored (table : List ℕ) (r : Result) : Type 0 where
   pub counts : score table r ≡ value
   pub most : value ≤ topScore
 
-not-unscored : (table : List ℕ) (year : ℕ) (r : Result) → usable year r ≡ true → unscored table year r ≡ false → Scored table r
+not-unscored : (table : List ℕ) (r : Result) → usable r ≡ true → unscored table r ≡ false → Scored table r
 unfolding unscored score
-not-unscored table year r u e = go (scoreFound table r) refl (sym (first-true (usable year r) (not (isScore (scoreFound table r))) u) ∙ e)
+not-unscored table r u e = go (scoreFound table r) refl (sym (first-true (usable r) (not (isScore (scoreFound table r))) u) ∙ e)
   where
     go : (f : Found) → scoreFound table r ≡ f → not (isScore f) ≡ false → Scored table r
     go (scaled v) is k = record { value = v; holds = is; counts = ap worth is; most = omega (arith, score-most table r, ap worth is) }
@@ -51,8 +51,8 @@ module _ (s : Student) (table : List ℕ) (formed : WellFormed s table) where
   pub usable-scored : (i : ℕ) → usableAt s i ≡ true → Scored table (result s i)
   unfolding usableAt
   usable-scored i u =
-      let p = both-true (i <? held s) (usable (s .year) (result s i)) u in
-      not-unscored table (s .year) (result s i) (p .1) (unbroken-turns (held s) (resultRules s table) turns-kept i (ltb-true i (held s) (p .0)) .1 .1 .0)
+      let p = both-true (i <? held s) (usable (result s i)) u in
+      not-unscored table (result s i) (p .1) (unbroken-turns (held s) (resultRules s table) turns-kept i (ltb-true i (held s) (p .0)) .1 .1 .0)
 
   -- so has each member of an admissible set: none counts 0 for want of a score
   pub member-scored : (set : ℕ) → Admissible s set → (i : ℕ) → In i set → Scored table (result s i)

@@ -32,16 +32,16 @@ has-test f n mask h i l = go (f i) refl
     go true e = eq-eqb _ _ (h .whole i l e)
     go false e = ne-eqb _ _ (λ p. true≢false (sym (h .sound i p) ∙ e))
 
-module _ (s : Student) (mask : ℕ) (h : MaskOf (λ i. usable (s .year) (result s i)) (held s) mask) where
+module _ (s : Student) (mask : ℕ) (h : MaskOf (λ i. usable (result s i)) (held s) mask) where
   has-usable : (i : ℕ) → has mask i ≡ usableAt s i
   unfolding usableAt
   has-usable i = go (decLt i (held s))
     where
-      go : Dec (i < held s) → has mask i ≡ (i <? held s && usable (s .year) (result s i))
-      go (yes l) = has-test _ (held s) mask h i l ∙ sym (ap (λ (b : Bool). b && usable (s .year) (result s i)) (lt-ltb _ _ l))
+      go : Dec (i < held s) → has mask i ≡ (i <? held s && usable (result s i))
+      go (yes l) = has-test _ (held s) mask h i l ∙ sym (ap (λ (b : Bool). b && usable (result s i)) (lt-ltb _ _ l))
       go (no l) =
           let out : held s ≤ i = omega arith in
-          ne-eqb _ _ (λ p. omega (arith, in-lt (held s) mask i (h .small) p)) ∙ sym (ap (λ (b : Bool). b && usable (s .year) (result s i)) (le-ltb _ _ out))
+          ne-eqb _ _ (λ p. omega (arith, in-lt (held s) mask i (h .small) p)) ∙ sym (ap (λ (b : Bool). b && usable (result s i)) (le-ltb _ _ out))
 
   pub kept-is : keptIn (s .results) mask ≡ kept s
   unfolding keptIn kept

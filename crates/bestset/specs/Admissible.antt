@@ -1,9 +1,9 @@
 -- Which sets of results are admissible.
-use Prim.Native.Nat.{ℕ, _^_, _<_, _≤_}
+use Prim.Native.Nat.{ℕ, _+_, _^_, _<_, _≤_}
 use mathlib.Core.Path.{_≡_}
 use mathlib.Core.Bool.{Bool, true}
 use lib.ListN.{length}
-use Rattle.paper.specs.Limits.{mostResults, members, leastGeneral}
+use Rattle.paper.specs.Limits.{mostResults, members, leastGeneral, mostSpan}
 use Rattle.catalogue.specs.Kinds.{english, mathematics, isIdentified}
 use Rattle.seek.specs.Sets.{In, positions, countOver}
 use Rattle.results.specs.Results.{Student, result}
@@ -25,7 +25,12 @@ OneEach s set =
     (i j : ℕ) → i < j → In i set → In j set
     → identified s i ≡ true → identified s j ≡ true → result s i .entry .identity ≡ result s j .entry .identity → ⊥
 
--- five kept results, at least four of them General; not both a General and an Applied of strand 1; not both of strand 2; no two of kinds 1 or 3 with one identity
+-- its latest year exceeds its earliest by at most four: of any two members the one's year is at most four more than the other's
+abbrev pub FiveYears : Student → ℕ → Type 0
+FiveYears s set = (i j : ℕ) → In i set → In j set → result s j .year ≤ result s i .year + mostSpan
+
+-- five kept results, at least four of them General; not both a General and an Applied of strand 1; not both of strand 2; no two of kinds 1 or 3 with one identity;
+-- all within five consecutive years
 pub record Admissible (s : Student) (set : ℕ) : Type 0 where
   pub bits : set < 2 ^ mostResults
   pub five : length (positions set) ≡ members
@@ -34,3 +39,4 @@ pub record Admissible (s : Student) (set : ℕ) : Type 0 where
   pub englishes : NotBoth english s set
   pub maths : NotBoth mathematics s set
   pub identities : OneEach s set
+  pub years : FiveYears s set

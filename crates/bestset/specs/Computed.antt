@@ -1,9 +1,9 @@
 -- The best set, computed: of all sets of the results those that are admissible, and of these the first of the greatest.
-use Prim.Native.Nat.{ℕ, zero, suc, _^_}
+use Prim.Native.Nat.{ℕ, zero, suc, _+_, _^_}
 use mathlib.Core.Bool.{Bool, true, false, not, _&&_, _||_}
 use mathlib.Core.List.{List, [], _∷_}
 use lib.ListN.{length}
-use Rattle.paper.specs.Limits.{mostResults, members, leastGeneral}
+use Rattle.paper.specs.Limits.{mostResults, members, leastGeneral, mostSpan}
 use Rattle.paper.specs.Lists.{some}
 use Rattle.paper.specs.Promises.{answered}
 use Rattle.paper.specs.Rulings.{Outcome, accepted, refused, _at_}
@@ -33,12 +33,20 @@ shares s i j = i <? j && (identified s j && result s i .entry .identity =? resul
 abbrev pub twice : Student → ℕ → Bool
 twice s set = someIn set (λ i. identified s i && someIn set (shares s i))
 
+-- result j is more than four years later than result i
+abbrev pub beyond : Student → ℕ → ℕ → Bool
+beyond s i j = (result s i .year + mostSpan) <? result s j .year
+
+-- some member is more than four years later than another
+abbrev pub scattered : Student → ℕ → Bool
+scattered s set = someIn set (λ i. someIn set (beyond s i))
+
 -- the test of a set
 unfoldable pub admissible : Student → ℕ → Bool
 admissible s set =
     (set <? 2 ^ mostResults && length (positions set) =? members)
     && ((not (someIn set (λ i. not (kept s i))) && leastGeneral ≤? countOver (generalAt s) (positions set))
-    && (not (both english s set) && (not (both mathematics s set) && not (twice s set))))
+    && (not (both english s set) && (not (both mathematics s set) && (not (twice s set) && not (scattered s set)))))
 
 -- dictionary order
 unfoldable pub earlier : List ℕ → List ℕ → Bool

@@ -98,3 +98,15 @@ three more = result 3 letterB 50 (result 4 letterB 50 (result 5 letterB 50 more)
 -- English 10, and five better Generals: it needn't be in the five
 abbrev pub english10 : List ℕ
 english10 = result 0 letterC 10 (result 1 letterB 50 (three (result 8 letterB 50 [])))
+
+-- one who passed everything between two years: the first in English, the last in Geography, the others 2013 to 2015
+abbrev pub mature : ℕ → ℕ → List ℕ
+mature first last = dated 0 letterC 50 first (dated 1 letterB 50 2013 (dated 3 letterB 50 2014 (dated 4 letterB 50 2015 (dated 5 letterB 50 last []))))
+
+-- the same of 2013 to 2016, with English of 2012 and again, better, in another year
+abbrev pub renewed : ℕ → List ℕ
+renewed year = dated 0 letterC 50 2012 (dated 1 letterB 50 2013 (dated 3 letterB 50 2014 (dated 4 letterB 50 2015 (dated 5 letterB 50 2016 (dated 0 letterB 90 year [])))))
+
+-- five Generals of 2021 at 50, and English of 1990 with a letter
+abbrev pub longAgo : ℕ → List ℕ
+longAgo letter = dated 0 letter 90 1990 (result 1 letterB 50 (three (result 8 letterB 50 [])))

@@ -14,7 +14,7 @@ abbrev pub rulesOf : ℕ → List ℕ → ℕ → Result → ℕ → List Rule
 rulesOf known table year r i =
     known ≤? r .subject ⇒ 3 at i
     ∷ wrong year r ⇒ 4 at i
-    ∷ unscored table year r ⇒ 5 at i
+    ∷ unscored table r ⇒ 5 at i
     ∷ []
 
 -- before 6

@@ -1,9 +1,10 @@
 -- What is read of the results: masks, bit i for result i, and values by position; and the tests of results over the mask of the usable ones.
-use Prim.Native.Nat.{ℕ, _*_, _%_, _^_, _≤_, _<_}
+use Prim.Native.Nat.{ℕ, _+_, _*_, _%_, _^_, _≤_, _<_}
 use mathlib.Core.Path.{_≡_}
-use mathlib.Core.Bool.{Bool, true, not, _&&_}
+use mathlib.Core.Bool.{Bool, true, not, _&&_, _||_}
 use mathlib.Core.List.{List}
 use lib.Bits.{bitOr}
+use Rattle.paper.specs.Limits.{mostSpan}
 use Rattle.paper.specs.Lists.{some}
 use Rattle.paper.specs.Words.{_<?_, _=?_, if_then_else_}
 use Rattle.catalogue.specs.Kinds.{english, mathematics}
@@ -31,11 +32,11 @@ marked mask i belongs = if belongs then bitOr mask (1 * 2 ^ i % 65536) else mask
 abbrev pub unmarked : Masks
 unmarked = record { usable = 0; passes = 0; general = 0; «general_english» = 0; «applied_english» = 0; «general_maths» = 0; «applied_maths» = 0 }
 
--- masks, i, assessment year, result i: the masks with result i
-abbrev pub withOne : Masks → ℕ → ℕ → Result → Masks
-withOne masks i year r = record {
-  usable = marked (masks .usable) i (usable year r);
-  passes = marked (masks .passes) i (passes year r);
+-- masks, i, result i: the masks with result i
+abbrev pub withOne : Masks → ℕ → Result → Masks
+withOne masks i r = record {
+  usable = marked (masks .usable) i (usable r);
+  passes = marked (masks .passes) i (passes r);
   general = marked (masks .general) i (ofGeneral r);
   «general_english» = marked (masks .«general_english») i (ofGeneral r && ofStrand english r);
   «applied_english» = marked (masks .«applied_english») i (ofApplied r && ofStrand english r);
@@ -45,7 +46,7 @@ withOne masks i year r = record {
 
 -- each mask holds the results of its sort, of those below n
 pub record Masked (s : Student) (n : ℕ) (masks : Masks) : Type 0 where
-  pub usable-are : MaskOf (λ i. usable (s .year) (result s i)) n (masks .usable)
+  pub usable-are : MaskOf (λ i. usable (result s i)) n (masks .usable)
   pub passes-are : MaskOf (passesAt s) n (masks .passes)
   pub general-are : MaskOf (generalAt s) n (masks .general)
   pub general-english : MaskOf (λ i. generalAt s i && strandAt english s i) n (masks .«general_english»)
@@ -85,3 +86,15 @@ keptIn results usable i = has usable i && not (some (heldIn results) (laterIn re
 
 unfoldable pub repeatedIn : List ℕ → ℕ → ℕ → Bool
 repeatedIn results usable i = has usable i && some i (sameYearIn results usable i)
+
+-- of two years the one exceeds the other by more than four
+abbrev pub tooFar : ℕ → ℕ → Bool
+tooFar one other = (one + mostSpan) <? other || (other + mostSpan) <? one
+
+-- the years of results i and j
+abbrev pub farIn : List ℕ → ℕ → ℕ → Bool
+farIn results i j = tooFar (yearOf results i) (yearOf results j)
+
+-- results, masks by position: each holds the results before its own that are too far from it
+abbrev pub FarBefore : List ℕ → List ℕ → Type 0
+FarBefore results masks = (i : ℕ) → i < heldIn results → MaskOf (farIn results i) i (valueAt masks i)

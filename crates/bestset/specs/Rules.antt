@@ -33,16 +33,16 @@ isScore (scaled v) = true
 isScore absent = false
 isScore tooHigh = false
 
--- table, assessment year, result: a usable result with a missing slot or one over the greatest score
-unfoldable pub unscored : List ℕ → ℕ → Result → Bool
-unscored table year r = usable year r && not (isScore (scoreFound table r))
+-- table, result: a usable result with a missing slot or one over the greatest score
+unfoldable pub unscored : List ℕ → Result → Bool
+unscored table r = usable r && not (isScore (scoreFound table r))
 
 -- student, table, i: of result i. 3: subject not in the catalogue; 4: letter, number or year wrong for the kind; 5: a usable result without a score
 abbrev pub resultRules : Student → List ℕ → ℕ → List Rule
 resultRules s table i =
     subjects (s .catalogue) ≤? result s i .subject ⇒ 3 at i
     ∷ wrong (s .year) (result s i) ⇒ 4 at i
-    ∷ unscored table (s .year) (result s i) ⇒ 5 at i
+    ∷ unscored table (result s i) ⇒ 5 at i
     ∷ []
 
 -- for each result in turn 3, 4, 5

@@ -15,6 +15,7 @@ use seek::search::Test;
 mod marks;
 mod readable;
 mod repeats;
+mod spans;
 
 // The aggregate in hundredths and the set, bit i for result i; or what is wrong.
 pub enum Answer {
@@ -31,6 +32,7 @@ fn choose(catalogue: &[u8], table: &[u8], year: u64, results: &[u8], read: Read)
     let masks = read.masks;
     let scores = read.scores;
     let identities = read.identities;
+    let far = spans::far_of(results);
     let test = Test {
         kept: repeats::kept_of(results, masks.usable),
         general: masks.general,
@@ -39,6 +41,7 @@ fn choose(catalogue: &[u8], table: &[u8], year: u64, results: &[u8], read: Read)
         general_maths: masks.general_maths,
         applied_maths: masks.applied_maths,
         identities: packing::pack(&identities),
+        far: packing::pack(&far),
     };
     let lead = search::search(test, &scores, results.len() / RESULT_BYTES);
     match lead {

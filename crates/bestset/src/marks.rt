@@ -52,17 +52,17 @@ fn both(one: bool, other: bool) -> bool
 }
 
 // The masks with result i.
-fn with_one(masks: Masks, i: usize, year: u64, result: Result) -> Masks
+fn with_one(masks: Masks, i: usize, result: Result) -> Masks
     requires { ⌜ i < mostResults ⌝ }
-    ensures { λ r. ⌜ r ≡ withOne masks i year result ⌝ }
+    ensures { λ r. ⌜ r ≡ withOne masks i result ⌝ }
 {
     let general = kinds::is_general(result.entry.kind);
     let applied = kinds::is_applied(result.entry.kind);
     let english = result.entry.strand == ENGLISH;
     let maths = result.entry.strand == MATHEMATICS;
     Masks {
-        usable: marked(masks.usable, i, counting::usable(year, result)),
-        passes: marked(masks.passes, i, counting::passes(year, result)),
+        usable: marked(masks.usable, i, counting::usable(result)),
+        passes: marked(masks.passes, i, counting::passes(result)),
         general: marked(masks.general, i, general),
         general_english: marked(masks.general_english, i, both(general, english)),
         applied_english: marked(masks.applied_english, i, both(applied, english)),
@@ -86,7 +86,7 @@ fn unmarked() -> Masks
     }
 }
 
-// All results, in one pass.
+// All results, in one pass. The year is there for the contract, which speaks of the student.
 pub(crate) fn read_all(catalogue: &[u8], table: &[u8], year: u64, results: &[u8]) -> Read
     requires { ⌜ heldIn (now results) ≤ mostResults ⌝ }
     ensures { λ r. ⌜ AllRead (student (now (catalogue .entry)) year (now (results .entry))) (now (table .entry)) r ⌝ }
@@ -97,7 +97,7 @@ pub(crate) fn read_all(catalogue: &[u8], table: &[u8], year: u64, results: &[u8]
     let mut i: usize = 0;
     while i < results.len() / RESULT_BYTES {
         let result = reading::result_at(catalogue, results, i);
-        masks = with_one(masks, i, year, result);
+        masks = with_one(masks, i, result);
         scores[i] = scoring::score_of(scoring::slot_of(table, result));
         identities[i] = scoring::identity_of(result);
         i += 1;

@@ -72,10 +72,10 @@ fn is_score(slot: Slot) -> bool
 }
 
 // Whether a usable result has a missing slot or one over the greatest score.
-fn unscored(table: &[u8], year: u64, result: Result) -> bool
-    ensures { λ r. ⌜ r ≡ unscored (now (table .entry)) year result ⌝ }
+fn unscored(table: &[u8], result: Result) -> bool
+    ensures { λ r. ⌜ r ≡ unscored (now (table .entry)) result ⌝ }
 {
-    if !counting::usable(year, result) {
+    if !counting::usable(result) {
         return false;
     }
     !is_score(scoring::slot_of(table, result))
@@ -91,7 +91,7 @@ fn judge_result(subjects: usize, table: &[u8], year: u64, result: Result, place:
     if wrong(year, result) {
         return Verdict::Refused(Refusal::WrongResult(place));
     }
-    if unscored(table, year, result) {
+    if unscored(table, result) {
         return Verdict::Refused(Refusal::WrongScore(place));
     }
     Verdict::Clear

@@ -2,7 +2,7 @@
 use mathlib.Core.Path.{_≡_, refl}
 use mathlib.Core.Bool.{true, false}
 use mathlib.Core.List.{[], _∷_}
-use Rattle.paper.specs.Limits.{entryBytes, resultBytes, figureBytes, mostSubjects, mostResults, slots, rowBytes, missing, missingByte, scoreParts, topScore, mostCount, members, leastGeneral, mostAggregate, firstYear, yearsBefore, leastYear, mostYear, figureCount, mostFigure, mostPopulation, leastRate, mostRate, topBand, bandCount, mostEntry, mostStudents, mostTallied, mostValues, tallyCount, mostBytes, catalogueBytes, tableBytes, resultsBytes}
+use Rattle.paper.specs.Limits.{entryBytes, resultBytes, figureBytes, mostSubjects, mostResults, slots, rowBytes, missing, missingByte, scoreParts, topScore, mostCount, members, leastGeneral, mostSpan, mostAggregate, firstYear, leastYear, mostYear, figureCount, mostFigure, mostPopulation, leastRate, mostRate, topBand, bandCount, mostEntry, mostStudents, mostTallied, mostValues, tallyCount, mostBytes, catalogueBytes, tableBytes, resultsBytes}
 use Rattle.paper.specs.Letters.{letterA, letterB, letterC, letterD, letterE, letterN, letterY}
 use Rattle.paper.specs.Ranges.{within}
 use Rattle.paper.specs.Rounding.{nearest}
@@ -43,13 +43,13 @@ pub limits :
     × (resultsBytes ≡ 49152)
 limits = (refl, refl, refl, refl, refl, refl, refl, refl, refl)
 
--- five of a set, four of them General; scores in hundredths, to 10000, an aggregate to 50000, 50001 counts; students at a result to 1000000
-pub sets : (members ≡ 5) × (leastGeneral ≡ 4) × (scoreParts ≡ 100) × (topScore ≡ 10000) × (mostAggregate ≡ 50000) × (tallyCount ≡ 50001) × (mostCount ≡ 1000000)
-sets = (refl, refl, refl, refl, refl, refl, refl)
+-- five of a set, four of them General, a latest year of at most four more than the earliest; scores in hundredths, to 10000, an aggregate to 50000, 50001 counts; students at a result to 1000000
+pub sets : (members ≡ 5) × (leastGeneral ≡ 4) × (mostSpan ≡ 4) × (scoreParts ≡ 100) × (topScore ≡ 10000) × (mostAggregate ≡ 50000) × (tallyCount ≡ 50001) × (mostCount ≡ 1000000)
+sets = (refl, refl, refl, refl, refl, refl, refl, refl)
 
--- results from 1980, the assessment year and the four before it, 1984 to 9999
-pub years : (firstYear ≡ 1980) × (yearsBefore ≡ 4) × (leastYear ≡ 1984) × (mostYear ≡ 9999)
-years = (refl, refl, refl, refl)
+-- results from 1980, assessment years 1984 to 9999
+pub years : (firstYear ≡ 1980) × (leastYear ≡ 1984) × (mostYear ≡ 9999)
+years = (refl, refl, refl)
 
 -- Q and E for ages 16 to 20, to 1000000, Y to 1000000, r 2500 to 7500; bands 0 to 1999, 2000 entries in millionths
 pub population : (figureCount ≡ 10) × (mostFigure ≡ 1000000) × (mostPopulation ≡ 1000000) × (leastRate ≡ 2500) × (mostRate ≡ 7500) × (topBand ≡ 1999) × (bandCount ≡ 2000) × (mostEntry ≡ 1000000)

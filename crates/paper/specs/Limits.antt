@@ -44,22 +44,22 @@ topScore = 100 * scoreParts
 abbrev pub mostCount : ℕ
 mostCount = 1000000
 
--- the members of a set, the Generals that it has at least, and the greatest aggregate
+-- the members of a set, the Generals that it has at least, the years by which its latest may exceed its earliest, and the greatest aggregate
 abbrev pub members : ℕ
 members = 5
 
 abbrev pub leastGeneral : ℕ
 leastGeneral = 4
 
+abbrev pub mostSpan : ℕ
+mostSpan = 4
+
 abbrev pub mostAggregate : ℕ
 mostAggregate = members * topScore
 
--- the first year of a result, the years before the assessment year that still count, and the assessment years
+-- the first year of a result, and the assessment years
 abbrev pub firstYear : ℕ
 firstYear = 1980
-
-abbrev pub yearsBefore : ℕ
-yearsBefore = 4
 
 abbrev pub leastYear : ℕ
 leastYear = 1984

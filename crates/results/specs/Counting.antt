@@ -1,8 +1,7 @@
 -- Which results count: usable, English, kept.
-use Prim.Native.Nat.{ℕ, _+_}
+use Prim.Native.Nat.{ℕ}
 use mathlib.Core.Bool.{Bool, not, _&&_, _||_}
 use Rattle.paper.specs.Letters.{letterA, letterC, letterY}
-use Rattle.paper.specs.Limits.{yearsBefore}
 use Rattle.paper.specs.Lists.{some}
 use Rattle.paper.specs.Ranges.{within}
 use Rattle.paper.specs.Words.{_≤?_, _<?_, _=?_}
@@ -30,24 +29,16 @@ appliedAt s i = ofApplied (result s i)
 abbrev pub strandAt : ℕ → Student → ℕ → Bool
 strandAt strand s i = ofStrand strand (result s i)
 
--- kinds 1 to 4, or VET with Y and level 3 or more
-abbrev pub countsFor : Result → Bool
-countsFor r = ofGeneral r || (ofApplied r || (isVet (r .entry .kind) && (r .letter =? letterY && certificateIII ≤? r .entry .level)))
-
--- the assessment year is a result's own year or one of the four after it
-abbrev pub recent : ℕ → ℕ → Bool
-recent year own = within own (own + yearsBefore) year
-
--- usable, in an assessment year: kinds 1 to 4, or VET with Y and level 3 or more; and recent
-unfoldable pub usable : ℕ → Result → Bool
-usable year r = countsFor r && recent year (r .year)
+-- usable: kinds 1 to 4, or VET with Y and level 3 or more; of any year
+unfoldable pub usable : Result → Bool
+usable r = ofGeneral r || (ofApplied r || (isVet (r .entry .kind) && (r .letter =? letterY && certificateIII ≤? r .entry .level)))
 
 -- a usable result with strand 1 and letter A, B or C
-abbrev pub passes : ℕ → Result → Bool
-passes year r = usable year r && (ofStrand english r && within letterA letterC (r .letter))
+abbrev pub passes : Result → Bool
+passes r = usable r && (ofStrand english r && within letterA letterC (r .letter))
 
 abbrev pub passesAt : Student → ℕ → Bool
-passesAt s i = passes (s .year) (result s i)
+passesAt s i = passes (result s i)
 
 -- English: some usable result with strand 1 has letter A, B or C
 unfoldable pub showsEnglish : Student → Bool
@@ -55,7 +46,7 @@ showsEnglish s = some (held s) (passesAt s)
 
 -- result i is one of the student's, and usable
 unfoldable pub usableAt : Student → ℕ → Bool
-usableAt s i = i <? held s && usable (s .year) (result s i)
+usableAt s i = i <? held s && usable (result s i)
 
 -- result j is usable, of the same subject as result i
 abbrev pub sameSubject : Student → ℕ → ℕ → Bool

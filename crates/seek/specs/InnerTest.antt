@@ -42,8 +42,12 @@ pub record Shares (identities : ℕ → ℕ) (set i : ℕ) : Type 0 where
   pub member : In other set
   pub same : identities i ≡ identities other
 
+-- no member is too far from another: for each result the mask of those before it that are
+abbrev pub Near : (ℕ → ℕ) → ℕ → Type 0
+Near far set = (i j : ℕ) → In i set → In j set → In j (far i) → ⊥
+
 -- an admissible set: five kept results, at least four of them General; not both a General and an Applied of English; not both of Mathematics;
--- no two with one identity
+-- no two with one identity; no two too far from each other
 pub record Allowed (test : Test) (set : ℕ) : Type 0 where
   pub small : set < 2 ^ mostResults
   pub kept : (i : ℕ) → In i set → In i (test .kept)
@@ -52,6 +56,7 @@ pub record Allowed (test : Test) (set : ℕ) : Type 0 where
   pub english : Apart (test .«general_english») (test .«applied_english») set
   pub maths : Apart (test .«general_maths») (test .«applied_maths») set
   pub distinct : Distinct (valueIn (test .identities)) set
+  pub near : Near (valueIn (test .far)) set
 
 -- a test's answer
 abbrev pub Decides : Bool → Type 0 → Type 0

@@ -3,7 +3,7 @@
 ghost use Prim.Native.Nat.{_<_};
 ghost use Rattle.paper.specs.Limits.{mostResults};
 ghost use Rattle.seek.specs.InnerPacking.{valueIn, valueAt};
-ghost use Rattle.seek.specs.InnerTest.{OfHeld, OfKept, Distinct, Shares, Allowed, Decides, Beats, Answers};
+ghost use Rattle.seek.specs.InnerTest.{OfHeld, OfKept, Distinct, Shares, Near, Allowed, Decides, Beats, Answers};
 ghost use Rattle.seek.specs.InnerSearch.{Sought, key, Tried, StandsWith, Bettered};
 use crate::packing;
 use crate::packing::Packed;
@@ -17,8 +17,8 @@ const MEMBER_COUNT: usize = MEMBERS as usize;
 // Those that the search steps to; the last two are tried in loops.
 const STEPPED: usize = MEMBER_COUNT - 2;
 
-// What the test of a set reads: the kept results and those of each sort that the rules of sets ask for, bit i for result i; and the identities by
-// position, 0 where there is none.
+// What the test of a set reads: the kept results and those of each sort that the rules of sets ask for, bit i for result i; and by position the
+// identities, 0 where there is none, and the results before each that are too far from it in years, bit j for result j.
 pub struct Test {
     pub kept: u16,
     pub general: u16,
@@ -27,6 +27,7 @@ pub struct Test {
     pub general_maths: u16,
     pub applied_maths: u16,
     pub identities: Packed,
+    pub far: Packed,
 }
 
 // The best set so far with its sum, or none.
@@ -69,6 +70,21 @@ fn distinct(identities: Packed, held: usize, set: u16) -> bool
     true
 }
 
+// Whether no member is too far from one before it.
+fn near(far: Packed, held: usize, set: u16) -> bool
+    requires { ⌜ OfHeld held set ⌝ }
+    ensures { λ r. ⌜ Decides r (Near (valueIn far) set) ⌝ }
+{
+    let mut i: usize = 0;
+    while i < held {
+        if set & (1u16 << i) != 0 && set & packing::value_in(far, i) != 0 {
+            return false;
+        }
+        i += 1;
+    }
+    true
+}
+
 // Whether a set of kept results is admissible.
 fn admissible(test: Test, held: usize, set: u16) -> bool
     requires { ⌜ OfKept (test .kept) held set ⌝ }
@@ -85,6 +101,9 @@ fn admissible(test: Test, held: usize, set: u16) -> bool
         return false;
     }
     if set & test.general_maths != 0 && set & test.applied_maths != 0 {
+        return false;
+    }
+    if !near(test.far, held, set) {
         return false;
     }
     distinct(test.identities, held, set)

@@ -1,4 +1,4 @@
-// Year 2017 counts in 2021, 2016 doesn't; English C and D differ; score 10000 and 10001 differ.
+// Spans of four and five years differ, whichever years they are; English C and D differ; score 10000 and 10001 differ.
 use crate::pupils;
 use crate::pupils::Results;
 use crate::pupils::TABLE;
@@ -18,6 +18,51 @@ fn six(letter: u8, number: u8, year: u16) -> Results {
         .dated(pupils::GEOGRAPHY, b'B', number, year)
 }
 
+// English of a year, and four Generals of 2013 to 2016, all at 50.00; and one more of a year at 90.00.
+fn mature(english: u16, subject: u8, year: u16) -> Results {
+    Results::none()
+        .dated(pupils::ENGLISH, b'C', 50, english)
+        .dated(pupils::METHODS, b'B', 50, 2013)
+        .dated(pupils::BIOLOGY, b'B', 50, 2014)
+        .dated(pupils::CHEMISTRY, b'B', 50, 2015)
+        .dated(pupils::PHYSICS, b'B', 50, 2016)
+        .dated(subject, b'B', 90, year)
+}
+
+// Who has results of many years.
+fn spans(table: &[u8; TABLE]) {
+    pupils::best(
+        b"a span of four, 2017 to 2021: ",
+        table,
+        six(b'C', 90, 2017),
+    );
+    pupils::best(
+        b"a span of five, 2016 to 2021: ",
+        table,
+        six(b'C', 90, 2016),
+    );
+    pupils::best(
+        b"2012 to 2016, and Geography of 1990: ",
+        table,
+        mature(2012, pupils::GEOGRAPHY, 1990),
+    );
+    pupils::best(
+        b"2011 to 2016, and Geography of 1990: ",
+        table,
+        mature(2011, pupils::GEOGRAPHY, 1990),
+    );
+    pupils::best(
+        b"English of 1990, and 2013 to 2017: ",
+        table,
+        mature(1990, pupils::GEOGRAPHY, 2017),
+    );
+    pupils::best(
+        b"2012 to 2016, and English again in 2021: ",
+        table,
+        mature(2012, pupils::ENGLISH, 2021),
+    );
+}
+
 // Geography 100 scores more than 100.00.
 fn raise(table: &mut [u8; TABLE]) {
     rows::store(table, 7, Raw(100), Scaled(TOP_SCORE + 1));
@@ -25,8 +70,7 @@ fn raise(table: &mut [u8; TABLE]) {
 
 pub(crate) fn run() {
     let mut table = pupils::scores();
-    pupils::best(b"a result of 2017 in 2021: ", &table, six(b'C', 90, 2017));
-    pupils::best(b"a result of 2016 in 2021: ", &table, six(b'C', 90, 2016));
+    spans(&table);
     pupils::best(b"English C: ", &table, six(b'C', 50, 2021));
     pupils::best(b"English D: ", &table, six(b'D', 50, 2021));
     pupils::best(b"score 10000: ", &table, six(b'C', 100, 2021));

@@ -1,4 +1,4 @@
--- The list of the examples marked P holds the paper's: each, none twice, and no other.
+-- The list of the examples holds the paper's that are marked P and those of request E2: each, none twice, and no other.
 use Prim.Native.Nat.{ℕ, suc}
 use mathlib.Core.Path.{_≡_, refl}
 use mathlib.Core.Bool.{Bool, true, false, _&&_}
@@ -8,7 +8,7 @@ use Rattle.paper.specs.Words.{_=?_, if_then_else_}
 use Rattle.bestset.specs.Examples.{seven, eight, nine, eleven}
 use Rattle.curve.specs.Examples.{aged17}
 use Rattle.worked.specs.Example.{Example, best-set_by_is_, figures_give_, rate_band_has_, aggregates_by_of_get_leaving_}
-use Rattle.worked.specs.Worked.{six, examples}
+use Rattle.worked.specs.Worked.{six, from2012, from2011, english1990, again2021, examples}
 
 -- what an example asks: the best set of results; Y and r of ten figures; of a rate the entry of a band; of Y the bands of aggregates
 abbrev asks : Example → List ℕ
@@ -18,14 +18,15 @@ asks (rate r band k has v) = r ∷ k ∷ []
 asks (aggregates xs by table of Y get atars leaving n) = Y ∷ xs
 
 -- how many there are
-pub eighteen : length examples ≡ 18
+pub twenty-two : length examples ≡ 22
 unfolding examples
-eighteen = refl
+twenty-two = refl
 
--- students 7, 8, 9 and 11; six Generals; r=5000 at k=1, 500, 1000, 1999; r=2500 at k=1999; r=7500 at k=0, 1;
+-- students 7, 8, 9 and 11; six Generals; 2012 to 2016, 2011 to 2016, English of 1990, English of 2012 again in 2021; r=5000 at k=1, 500, 1000, 1999; r=2500 at k=1999; r=7500 at k=0, 1;
 -- Y=100000 with E=24995, 24994, 75004, 75005; Y=2000, aggregates 400.00, 400.00, 300.00; Y=1, two different
 pub members : map asks examples
     ≡ seven .results ∷ eight .results ∷ nine .results ∷ eleven .results ∷ six .results
+    ∷ from2012 .results ∷ from2011 .results ∷ english1990 .results ∷ again2021 .results
     ∷ (5000 ∷ 1 ∷ []) ∷ (5000 ∷ 500 ∷ []) ∷ (5000 ∷ 1000 ∷ []) ∷ (5000 ∷ 1999 ∷ []) ∷ (2500 ∷ 1999 ∷ []) ∷ (7500 ∷ 0 ∷ []) ∷ (7500 ∷ 1 ∷ [])
     ∷ aged17 100000 24995 ∷ aged17 100000 24994 ∷ aged17 100000 75004 ∷ aged17 100000 75005
     ∷ (2000 ∷ 40000 ∷ 40000 ∷ 30000 ∷ []) ∷ (1 ∷ 40000 ∷ 30000 ∷ []) ∷ []
@@ -44,6 +45,6 @@ times x [] = 0
 times x (y ∷ ys) = if same x y then suc (times x ys) else times x ys
 
 -- none is there twice
-pub once : map (λ x. times x (map asks examples)) (map asks examples) ≡ replicate 18 1
+pub once : map (λ x. times x (map asks examples)) (map asks examples) ≡ replicate 22 1
 unfolding examples
 once = refl

@@ -94,32 +94,32 @@ join zero es a b = b
 join (suc n) [] a b = tt
 join (suc n) (e ∷ es) a b = (a .0, join n es (a .1) b)
 
--- students 7, 8, 9 and 11; six Generals
-students : AllCompute (take 5 examples)
+-- students 7, 8, 9 and 11; six Generals; those of many years
+students : AllCompute (take 9 examples)
 unfolding examples slots first word inTurn outside found slotOf onesFrom sumOver countOver scoreFound score usable usableAt showsEnglish kept wrong unscored repeated admissible earlier chosen
-students = (refl, (refl, (refl, (refl, (refl, tt)))))
+students = (refl, (refl, (refl, (refl, (refl, (refl, (refl, (refl, (refl, tt)))))))))
 
 -- r=5000, r=2500 and r=7500
-entries : AllCompute (take 7 (drop 5 examples))
+entries : AllCompute (take 7 (drop 9 examples))
 unfolding examples sum first S E nearest listed lower upper entry tableOf
 entries = ((refl, refl), ((refl, refl), ((refl, refl), ((refl, refl), ((refl, refl), ((refl, refl), ((refl, refl), tt)))))))
 
 -- Y=100000
-rates : AllCompute (take 4 (drop 12 examples))
+rates : AllCompute (take 4 (drop 16 examples))
 unfolding examples sum first S E nearest
 rates = (refl, (refl, (refl, (refl, tt))))
 
 -- full table: Y=2000; Y=1, where neither of two fits band 1
-three-placed : AllCompute (take 1 (drop 16 examples))
+three-placed : AllCompute (take 1 (drop 20 examples))
 unfolding examples sum count first sumOf listed full places remainder bandUpTo bandsOf
 three-placed = (((refl, (refl, (refl, (refl, (full-within, (refl, tt)))))), refl, refl), tt)
 
-two-placed : AllCompute (drop 17 examples)
+two-placed : AllCompute (drop 21 examples)
 unfolding examples sum count first sumOf listed full places remainder bandsOf
 two-placed =
     (((refl, (refl, (refl, (refl, (full-within, (refl, tt)))))), refl, rw (none-fit full 1 1 (lit< tt), none-fit full 1 2 (lit< tt)) refl), tt)
 
--- the paper's examples marked P, in one statement
+-- the paper's examples marked P and those of request E2, in one statement
 pub worked : All examples
 unfolding examples
-worked = all-hold examples (join 5 examples students (join 7 (drop 5 examples) entries (join 4 (drop 12 examples) rates (join 1 (drop 16 examples) three-placed two-placed))))
+worked = all-hold examples (join 9 examples students (join 7 (drop 9 examples) entries (join 4 (drop 16 examples) rates (join 1 (drop 20 examples) three-placed two-placed))))

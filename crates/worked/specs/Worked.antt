@@ -1,9 +1,9 @@
--- The paper's examples that are marked P.
+-- The paper's examples that are marked P, and the students of request E2.
 use mathlib.Core.List.{List, [], _∷_}
 use Rattle.paper.specs.Letters.{letterB, letterC}
 use Rattle.paper.specs.Rulings.{refused, _at_}
 use Rattle.results.specs.Results.{Student, student}
-use Rattle.bestset.specs.Examples.{seven, eight, nine, eleven, table, result, catalogue2, table2, three}
+use Rattle.bestset.specs.Examples.{seven, eight, nine, eleven, table, result, catalogue2, table2, three, mature, renewed, longAgo}
 use Rattle.curve.specs.Examples.{aged17}
 use Rattle.tally.specs.Examples.{full}
 use Rattle.worked.specs.Example.{_·_, chosen, counted, Example, best-set_by_is_, figures_give_, rate_band_has_, aggregates_by_of_get_leaving_}
@@ -11,6 +11,19 @@ use Rattle.worked.specs.Example.{_·_, chosen, counted, Example, best-se
 -- six Generals at 50.00, one an English C
 abbrev pub six : Student
 six = student catalogue2 2021 (result 0 letterC 50 (result 1 letterB 50 (three (result 8 letterB 50 []))))
+
+-- in 2021: one who passed everything from 2012 to 2016, or from 2011; with English of 1990; with English of 2012 and again in 2021
+abbrev pub from2012 : Student
+from2012 = student catalogue2 2021 (mature 2012 2016)
+
+abbrev pub from2011 : Student
+from2011 = student catalogue2 2021 (mature 2011 2016)
+
+abbrev pub english1990 : Student
+english1990 = student catalogue2 2021 (longAgo letterC)
+
+abbrev pub again2021 : Student
+again2021 = student catalogue2 2021 (renewed 2021)
 
 unfoldable pub examples : List Example
 examples =
@@ -20,6 +33,11 @@ examples =
     ∷ best-set nine by table is refused (8 at 0)
     ∷ best-set eleven by table is chosen (355 · 00) (0 ∷ 1 ∷ 2 ∷ 3 ∷ 4 ∷ [])
     ∷ best-set six by table2 is chosen (250 · 00) (0 ∷ 1 ∷ 2 ∷ 3 ∷ 4 ∷ [])
+    -- spans of four and of five; English from any year; a repeat goes to the latest
+    ∷ best-set from2012 by table2 is chosen (250 · 00) (0 ∷ 1 ∷ 2 ∷ 3 ∷ 4 ∷ [])
+    ∷ best-set from2011 by table2 is refused (8 at 0)
+    ∷ best-set english1990 by table2 is chosen (250 · 00) (1 ∷ 2 ∷ 3 ∷ 4 ∷ 5 ∷ [])
+    ∷ best-set again2021 by table2 is refused (8 at 0)
     -- r=5000, r=2500 and r=7500
     ∷ rate 5000 band 1 has 0
     ∷ rate 5000 band 500 has 62500

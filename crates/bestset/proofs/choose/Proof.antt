@@ -1,13 +1,14 @@
-use mathlib.Core.List.{List}
-use Prim.Native.Nat.{ℕ}
-use Rattle.bestset.proofs.Bridge.{few-held, outcome, TestOf, testOf, test-of, sought, found-answered}
-use Rattle.seek.specs.declared.search.Test.{Test}
-use Rattle.bestset.specs.Promise.{Answered}
 use Rattle.results.specs.Results.{Student, student}
+use Rattle.bestset.specs.Promise.{Answered}
+use Rattle.seek.specs.declared.search.Test.{Test}
+use Rattle.bestset.proofs.Bridge.{few-held, outcome, TestOf, testOf, test-of, sought, found-answered}
+use Prim.Native.Nat.{ℕ}
+use mathlib.Core.List.{List}
 use borrow.Author.Needs.{needs}
 use Rattle.bestset.proofs.choose.Statement.{statement}
 use Rattle.bestset.proofs.choose.Tie as tie
 use Rattle.bestset.proofs.repeats.kept_of.Reads as kept-of-reads
+use Rattle.bestset.proofs.spans.far_of.Reads as far-of-reads
 use Rattle.seek.proofs.packing.pack.Reads as pack-reads
 use Rattle.seek.proofs.search.search.Reads as search-reads
 
@@ -15,14 +16,17 @@ use Rattle.seek.proofs.search.search.Reads as search-reads
 abbrev start : tie.After-identities → tie.Start
 start c = c .before .before .before .before .before .before
 
+abbrev marked : tie.After-kept-of → tie.After-far-of
+marked c = c .before
+
 abbrev begun : tie.After-kept-of → tie.Start
-begun c = start (c .before)
+begun c = start (marked c .before)
 
-abbrev kept : tie.After-pack → tie.After-kept-of
-kept c = c .before .before
+abbrev packed : tie.After-pack2 → tie.After-pack
+packed c = c .before .before
 
-abbrev packed : tie.After-scores2 → tie.After-pack
-packed c = c .before
+abbrev kept : tie.After-pack2 → tie.After-kept-of
+kept c = packed c .before .before
 
 -- the student and the table; what the search reads
 module _ (s : tie.Start) where
@@ -32,32 +36,42 @@ module _ (s : tie.Start) where
   abbrev table : List ℕ
   table = s .args .table .now
 
-abbrev test : tie.After-pack → Test
-test c = testOf (begun (kept c) .args .read) (kept c .kept-of .result) (c .pack .result)
+abbrev test : tie.After-pack2 → Test
+test c = testOf (begun (kept c) .args .read) (kept c .kept-of .result) (packed c .pack .result) (c .pack2 .result)
 
-tests : (c : tie.After-pack) → TestOf (who (begun (kept c))) (test c)
+tests : (c : tie.After-pack2) → TestOf (who (begun (kept c))) (test c)
 tests c =
-    let s = begun (kept c) in
-    let k = kept c .kept-of in
-    test-of (who s) (table s) (s .args .read) (k .result) _ (few-held (who s) (table s) (s .pre .formed)) (s .pre .all) (k .ensures) (c .pack .ensures)
+    let d = kept c in
+    let s = begun d in
+    let k = d .kept-of in
+    test-of (who s) (table s) (s .args .read) (k .result) _ _ (marked d .far-of .result) (few-held (who s) (table s) (s .pre .formed)) (s .pre .all) (k .ensures) (packed c .pack .ensures)
+    (marked d .far-of .ensures) (c .pack2 .ensures)
 
-answered : (c : tie.After-search) → let s = begun (kept (packed (c .before))) in Answered (who s) (table s) (outcome (c .search .result))
+answered : (c : tie.After-search) → let s = begun (kept (c .before .before)) in Answered (who s) (table s) (outcome (c .search .result))
 answered c =
-    let d = packed (c .before) in
+    let d = c .before .before in
     let s = begun (kept d) in
     found-answered _ _ (s .pre .formed) (test d) (tests d) (s .args .read .scores) (s .pre .all .scores-are) (c .search .result) (c .search .ensures)
 
+far-of-requires : tie.Need-far-of-requires
+far-of-requires c κs =
+    let s = start c in
+    few-held (who s) (table s) (s .pre .formed)
+
 kept-of-requires : tie.Need-kept-of-requires
 kept-of-requires c κs =
-    let s = start c in
+    let s = start (c .before) in
     few-held (who s) (table s) (s .pre .formed)
 
 pack-requires : tie.Need-pack-requires
 pack-requires c κs = search needs
 
+pack-requires-2 : tie.Need-pack-requires-2
+pack-requires-2 c κs = search needs
+
 search-requires : tie.Need-search-requires
 search-requires c κs =
-    let d = packed c in
+    let d = c .before in
     let s = begun (kept d) in
     sought (who s) (table s) (s .pre .formed) (test d) (tests d) (s .args .read .scores) (s .pre .all .scores-are)
 
@@ -77,8 +91,10 @@ pub choose-spec : {M : Type 1} → statement M
 choose-spec =
     tie.close
     (tie.spec
+    far-of-requires
     kept-of-requires
     pack-requires
+    pack-requires-2
     search-requires
     enum-told
     enum-known-lead

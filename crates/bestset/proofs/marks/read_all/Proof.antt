@@ -98,7 +98,7 @@ loop-again c =
     let inv = turn .loop .inv in
     let most = few turn in
     let marks = d .before .before .with-one in
-    let masks : marks .result ≡ withOne (turn .loop .masks) i (s .year) (result s i) = marks .ensures ∙ ap (λ (r : Result). withOne (turn .loop .masks) i (s .year) r) (e .result-at .ensures) in
+    let masks : marks .result ≡ withOne (turn .loop .masks) i (result s i) = marks .ensures ∙ ap (λ (r : Result). withOne (turn .loop .masks) i r) (e .result-at .ensures) in
     let worths : d .score-of .result ≡ scoreAt s (table turn) i = d .score-of .ensures ∙ ap worth (d .before .slot-of .ensures) ∙ ap (λ (r : Result). score (table turn) r) (e .result-at .ensures) in
     let own : c .identity-of .result ≡ identityAt s i = c .identity-of .ensures ∙ ap ownIdentity (e .result-at .ensures) in (
       omega arith,
