@@ -295,8 +295,8 @@ enum { ANOTHER_SET, NO_SET, SPAN_OF_FOUR, ENGLISH_OUTSIDE, OLD_SCORE, OLD_AGAIN,
 
 static unsigned long met_years[OF_YEARS];
 
-/* What the answer were without the span rule: of each subject the latest result is moved to the assessment year, the one before it to the
- * year before, and so on; so all that are kept are of one year. */
+/* What the answer would be without the span rule: of each subject the latest result is moved to the assessment year, the one before
+ * it to the year before, and so on; so all that are kept are of one year. */
 static struct second_best best_without_span(const struct student *s)
 {
     uint8_t results[sizeof s->results];
