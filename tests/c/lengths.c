@@ -273,7 +273,7 @@ static void score(int subject, int slot, int hundredths)
     scores[200 * subject + 2 * (slot - 1) + 1] = (uint8_t)(hundredths % 256);
 }
 
-/* Student 7 of the paper's example, whose six results are followed by Hospitality B, and by Physics of years that do not count. */
+/* Student 7 of the paper's example, whose six results are followed by Hospitality B, and by Physics of earlier years, not kept. */
 static void fill_results(void)
 {
     static const uint8_t student[7][3] = {{0, 'B', 70}, {1, 'B', 90}, {2, 'B', 80}, {3, 'B', 75}, {4, 'A', 0}, {5, 'B', 40}, {6, 'B', 0}};

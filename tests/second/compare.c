@@ -1,6 +1,7 @@
 /* Holds each entry of the library to the second implementation, on inputs made from a seed: long and short, valid and damaged.
  * Answers are compared field by field, lent buffers whole and past their ends, and a refused call must leave them as they were.
- * Each refusal that an entry can give must be met. The first difference ends the run, with its input. tests/compare builds and runs it.
+ * Each refusal that an entry can give must be met, and answers that the span of years changes, in students whose results lie over
+ * many years. The first difference ends the run, with its input. tests/compare builds and runs it.
  *
  *   compare SEED
  */
@@ -121,12 +122,18 @@ struct student {
     uint8_t catalogue[ENTRY * SUBJECTS], table[ROW * SUBJECTS], results[RESULT * RESULTS];
     size_t catalogue_len, table_len, results_len;
     uint32_t year;
+    struct years years;
 };
 
 static void put_two(uint8_t *bytes, uint32_t value)
 {
     bytes[0] = (uint8_t)(value >> 8);
     bytes[1] = (uint8_t)value;
+}
+
+static uint32_t two(const uint8_t *bytes)
+{
+    return 256u * bytes[0] + bytes[1];
 }
 
 static void make_subject(struct student *s, size_t i)
@@ -138,10 +145,27 @@ static void make_subject(struct student *s, size_t i)
     put_two(entry + 3, entry[0] != 1 && entry[0] != 3 ? 0 : chance(80) ? (uint32_t)i + 1 : ONE_OF(1, 2, 3, 256, 65535));
 }
 
+/* The catalogue entry of a result; one of no kind if it is no result. */
+static const uint8_t *entry_of(const struct student *s, size_t i)
+{
+    static const uint8_t none[ENTRY] = {0};
+    uint32_t subject = two(s->results + RESULT * i);
+    return subject < s->subjects ? s->catalogue + ENTRY * subject : none;
+}
+
 static uint32_t kind_of(const struct student *s, size_t i)
 {
-    uint32_t subject = 256u * s->results[RESULT * i] + s->results[RESULT * i + 1];
-    return subject < s->subjects ? s->catalogue[ENTRY * subject] : 0;
+    return entry_of(s, i)[0];
+}
+
+static int is_english(const struct student *s, size_t i)
+{
+    return entry_of(s, i)[1] == 1;
+}
+
+static uint32_t year_at(const struct student *s, size_t i)
+{
+    return two(s->results + RESULT * i + 4);
 }
 
 /* Where the score of a result stands; the table's first slot if it is no result. */
@@ -149,7 +173,7 @@ static uint8_t *slot_of(struct student *s, size_t i)
 {
     const uint8_t *result = s->results + RESULT * i;
     uint32_t kind = kind_of(s, i), slot = kind == 4 ? 90 - 20 * (result[2] - 'A') : kind == 6 ? 1 : result[3];
-    return s->table + (kind == 0 || slot < 1 || slot > 100 ? 0 : ROW * (256u * result[0] + result[1]) + 2 * (slot - 1));
+    return s->table + (kind == 0 || slot < 1 || slot > 100 ? 0 : ROW * two(result) + 2 * (slot - 1));
 }
 
 /* Few values make sets of one sum. */
@@ -164,31 +188,33 @@ static uint32_t some_score(unsigned manner)
     }
 }
 
+static int one_subject(const struct student *s, size_t i, size_t j)
+{
+    return two(s->results + RESULT * i) == two(s->results + RESULT * j);
+}
+
 /* Whether an earlier result has the subject and the year of result i. */
 static int is_again(const struct student *s, size_t i)
 {
-    const uint8_t *result = s->results + RESULT * i;
     for (size_t j = 0; j < i; j++)
-        if (memcmp(s->results + RESULT * j, result, 2) == 0 && memcmp(s->results + RESULT * j + 4, result + 4, 2) == 0)
+        if (one_subject(s, i, j) && year_at(s, i) == year_at(s, j))
             return 1;
     return 0;
 }
 
-/* Mostly of this year, or of a year that counts, and not again. */
+/* In one of the student's years, English at times in any, and not again. */
 static void make_result(struct student *s, size_t i, unsigned manner)
 {
     uint8_t *result = s->results + RESULT * i;
-    uint32_t old;
     unsigned tries = 0;
     do {
-        old = chance(80) ? 0 : chance(80) ? below(5) : below(50);
         put_two(result, s->subjects == 0 ? 0 : below(s->subjects));
-        put_two(result + 4, s->year - 1980 < old ? 1980 : s->year - old);
+        put_two(result + 4, is_english(s, i) && chance(20) ? any_year(s->years) : year_of(s->years));
     } while (is_again(s, i) && ++tries < 8);
     uint32_t kind = kind_of(s, i);
     result[2] = (uint8_t)(kind == 6 ? ONE_OF('Y', 'Y', 'Y', 'N') : ONE_OF('A', 'A', 'B', 'B', 'C', 'C', 'D', 'E'));
     result[3] = (uint8_t)(kind > 3 ? 0 : chance(10) ? ONE_OF(1, 100) : from(1, 100));
-    if (old < 5 && result[2] != 'N' && kind != 5) /* the others are not usable, and need no score */
+    if (result[2] != 'N' && kind != 5) /* the others are not usable, and need no score */
         put_two(slot_of(s, i), some_score(manner));
 }
 
@@ -198,6 +224,7 @@ static void make_student(struct student *s)
     s->subjects = chance(95) ? from(5, 20) : ONE_OF(0, 1, 2, 63, 64);
     s->count = chance(80) ? from(6, 12) : below(17);
     s->year = chance(70) ? 2021 : chance(50) ? ONE_OF(1984, 1985, 1988, 9999) : from(1984, 9999);
+    s->years = some_years(s->year);
     memset(s->table, chance(50) ? 255 : (int)below(256), sizeof s->table); /* slots that serve nobody hold anything */
     for (size_t i = 0; i < s->subjects; i++)
         make_subject(s, i);
@@ -223,6 +250,13 @@ static void make_many(struct student *s)
     }
 }
 
+/* Four or five years before another result, or after it. */
+static uint32_t year_near(const struct student *s)
+{
+    uint32_t year = year_at(s, below(s->count));
+    return year + ONE_OF(0, 1, 9, 10) - 5;
+}
+
 static void damage_result(struct student *s)
 {
     size_t i = below(s->count);
@@ -232,8 +266,8 @@ static void damage_result(struct student *s)
     case 1: put_two(result, ONE_OF(256, 65535)); break;
     case 2: result[2] = (uint8_t)ONE_OF('@', 'F', 'a', 'N', 'Y', 'X', 'Z', 0); break;
     case 3: result[3] = (uint8_t)ONE_OF(0, 1, 100, 101, 255); break;
-    case 4: put_two(result + 4, s->year + ONE_OF(0, 4, 5) - 4); break; /* the fourth year before, this one, the next */
-    case 5: put_two(result + 4, ONE_OF(1979, 1980, 0, s->year - 5)); break;
+    case 4: put_two(result + 4, ONE_OF(1979, 1980, 0, s->year, s->year + 1)); break;
+    case 5: put_two(result + 4, year_near(s)); break;
     case 6: put_two(slot_of(s, i), ONE_OF(0, 10000, 10001, 65534, 65535)); break;
     default: memcpy(result, s->results + RESULT * below(s->count), RESULT); break;
     }
@@ -256,6 +290,78 @@ static void damage_student(struct student *s)
     }
 }
 
+/* What was met of the years, besides refusals. With fewer than FEWEST of one of them the run says little. */
+enum { ANOTHER_SET, NO_SET, SPAN_OF_FOUR, ENGLISH_OUTSIDE, OLD_SCORE, OLD_AGAIN, OF_YEARS, FEWEST = 50 };
+
+static unsigned long met_years[OF_YEARS];
+
+/* What the answer would be without the span rule: of each subject the latest result is moved to the assessment year, the one before
+ * it to the year before, and so on; so all that are kept are of one year. */
+static struct second_best best_without_span(const struct student *s)
+{
+    uint8_t results[sizeof s->results];
+    memcpy(results, s->results, sizeof results);
+    for (size_t i = 0; i < s->count; i++) {
+        uint32_t later = 0;
+        for (size_t j = 0; j < s->count; j++)
+            later += one_subject(s, i, j) && s->results[RESULT * j + 2] != 'N' && year_at(s, j) > year_at(s, i);
+        put_two(results + RESULT * i + 4, s->year - later);
+    }
+    return second_best_set(s->catalogue, s->catalogue_len, s->table, s->table_len, s->year, results, s->results_len);
+}
+
+/* Whether the latest year of all exceeds its year by more than four. */
+static int is_old(const struct student *s, size_t i)
+{
+    for (size_t j = 0; j < s->count; j++)
+        if (year_at(s, j) > year_at(s, i) + 4)
+            return 1;
+    return 0;
+}
+
+/* A chosen set: its span, and whether English is shown from its years. */
+static void note_set(const struct student *s, unsigned set)
+{
+    uint32_t earliest = UINT32_MAX, latest = 0, shown = 0;
+    for (size_t i = 0; i < s->count; i++)
+        if (set >> i & 1) {
+            earliest = year_at(s, i) < earliest ? year_at(s, i) : earliest;
+            latest = year_at(s, i) > latest ? year_at(s, i) : latest;
+        }
+    for (size_t i = 0; i < s->count; i++)
+        shown += is_english(s, i) && s->results[RESULT * i + 2] <= 'C' && earliest <= year_at(s, i) && year_at(s, i) <= latest;
+    met_years[SPAN_OF_FOUR] += latest - earliest == 4;
+    met_years[ENGLISH_OUTSIDE] += shown == 0;
+}
+
+static void note_years(const struct student *s, const struct second_best *b)
+{
+    if (b->refusal == 5 || b->refusal == 6)
+        met_years[b->refusal == 5 ? OLD_SCORE : OLD_AGAIN] += is_old(s, b->place);
+    if (b->refusal != 0 && b->refusal != 8)
+        return;
+    struct second_best without = best_without_span(s);
+    if (b->refusal == 0)
+        note_set(s, b->set);
+    if (without.refusal == 0 && (b->refusal == 8 || without.set != b->set))
+        met_years[b->refusal == 8 ? NO_SET : ANOTHER_SET]++;
+}
+
+static int all_years(void)
+{
+    static const char *const names[OF_YEARS] = {"with another set than without the span rule", "refused 8 by it alone",
+                                                "with a span of four", "with English from outside the years of the five",
+                                                "refused 5 at an old result", "refused 6 at an old result"};
+    int all = 1;
+    printf("best set by years:");
+    for (size_t i = 0; i < OF_YEARS; i++) {
+        printf("%s %lu %s", i == 0 ? "" : ",", met_years[i], names[i]);
+        all &= met_years[i] >= FEWEST;
+    }
+    printf(all ? "\n" : "; of some too few\n");
+    return all;
+}
+
 static void compare_best_set(struct entry *e)
 {
     static struct student s;
@@ -268,6 +374,7 @@ static void compare_best_set(struct entry *e)
     same_refusal(e, a.refusal, a.place, b.refusal, b.place);
     same("aggregate", a.aggregate, b.aggregate);
     same("set", a.set, b.set);
+    note_years(&s, &b);
     if (!differs)
         return;
     printf("year %lu\n", (unsigned long)s.year);
@@ -639,7 +746,7 @@ int main(int arguments, char **argument)
     printf("compare: seed %llu\n", (unsigned long long)seed);
     fflush(stdout);
     int fine = run("first scores", GIVES(0, 3, 11, 15), compare_scores, SCORES) && all_kinds() &&
-               run("best set", GIVES(0, 1, 2, 3, 4, 5, 6, 7, 8, 11, 14), compare_best_set, BEST_SETS) &&
+               run("best set", GIVES(0, 1, 2, 3, 4, 5, 6, 7, 8, 11, 14), compare_best_set, BEST_SETS) && all_years() &&
                run("curve", GIVES(0, 9, 10, 11), compare_curve, CURVES) &&
                run("ranks", GIVES(0, 2, 11), compare_ranks, RANKINGS) &&
                run("direct bands", GIVES(0, 2, 9, 11, 12, 13), compare_direct, DIRECT) &&

@@ -186,20 +186,21 @@ static void spoil_result(uint8_t *result, const struct plan *p)
     case 0: put_two(result, ONE_OF(p->subjects, p->subjects - 1, 256, 65535)); break;
     case 1: result[2] = (uint8_t)ONE_OF('@', 'F', 'a', 'N', 'Y', 0); break;
     case 2: result[3] = (uint8_t)ONE_OF(0, 1, 100, 101, 255); break;
-    case 3: put_two(result + 4, p->year + ONE_OF(0, 1)); break;
-    case 4: put_two(result + 4, ONE_OF(1979, 1980, 0, p->year - 4, p->year - 5)); break;
+    case 3: put_two(result + 4, ONE_OF(1979, 1980, 0, p->year, p->year + 1)); break;
+    case 4: put_two(result + 4, two(result + 4) - ONE_OF(4, 5)); break; /* a span of four or of five with the others of its year */
     case 5: result[3] = (uint8_t)from(1, SLOTS); break; /* a slot that is perhaps missing */
     default: result[below(6)] = (uint8_t)below(256); break;
     }
 }
 
-static void make_result(uint8_t *result, const struct plan *p, uint32_t subject)
+/* In one of the student's years, English at times in any. */
+static void make_result(uint8_t *result, const struct plan *p, uint32_t subject, struct years years)
 {
-    uint32_t kind = p->catalogue[subject][0], slots = p->slots[subject], old = chance(92) ? 0 : chance(80) ? below(5) : below(50);
+    uint32_t kind = p->catalogue[subject][0], slots = p->slots[subject];
     put_two(result, subject);
     result[2] = (uint8_t)(kind == 6 ? ONE_OF('Y', 'Y', 'Y', 'N') : ONE_OF('A', 'A', 'B', 'B', 'C', 'C', 'D', 'E'));
     result[3] = (uint8_t)(kind > 3 ? 0 : slots == 0 ? from(1, SLOTS) : p->given[subject][below(slots)]);
-    put_two(result + 4, p->year - 1980 < old ? 1980 : p->year - old);
+    put_two(result + 4, p->catalogue[subject][1] == 1 && chance(10) ? any_year(years) : year_of(years));
 }
 
 /* Subjects in their order from one by chance, each once until all were had; one of them English, mostly with a C or better. */
@@ -208,14 +209,15 @@ static void add_results(struct file *f, const struct plan *p)
     uint32_t count = p->results != 0 ? p->results : chance(85) ? from(5, 10) : below(RESULTS + 1);
     uint32_t start = below(p->subjects), english = chance(95) ? below(count) : count, wrong = chance(2);
     int has = start == 0 || start + count > p->subjects; /* subject 0 is an English */
+    struct years years = some_years(p->year);
     for (uint32_t i = 0; i < count; i++) {
         uint8_t result[6];
         uint32_t subject = p->subjects == 0 ? 0 : (start + i) % p->subjects;
         if (i == english && !has)
             subject = english_in(p);
-        make_result(result, p, subject);
+        make_result(result, p, subject, years);
         if (i >= p->subjects) /* a subject once more, in another year */
-            put_two(result + 4, p->year - ONE_OF(1, 1, 2, 3, 4, 5));
+            put_two(result + 4, years_before(two(result + 4), ONE_OF(1, 1, 2, 3, 4, 5)));
         if (p->catalogue[subject][1] == 1 && chance(90))
             result[2] = (uint8_t)ONE_OF('A', 'B', 'C');
         if (chance(p->faults) || wrong)
@@ -504,7 +506,7 @@ static void change_year(struct file *f)
         put_two(f->bytes + at + 3, ONE_OF(0, 1983, 1984, 2020, 2025, 9999, 10000, 65535));
 }
 
-/* A slot, a score, a subject or an entry at its limit, or past it. */
+/* A slot, a score, a subject, an entry or the span of a year to others at its limit, or past it. */
 static void change_value(struct file *f)
 {
     size_t at = some_of(f, ONE_OF(2, 3, 6));
@@ -521,7 +523,12 @@ static void change_value(struct file *f)
         else
             put_two(value + 3, ONE_OF(0, 10000, 10001, 65535));
         break;
-    default: value[below(6)] = (uint8_t)ONE_OF(0, 1, 100, 101, 'A', 'C', 'D', 'E', 'F', 'Y', 'N', 255); break;
+    default:
+        if (chance(30)) /* four or five years before, or after */
+            put_two(value + 4, two(value + 4) + ONE_OF(0, 1, 9, 10) - 5);
+        else
+            value[below(6)] = (uint8_t)ONE_OF(0, 1, 100, 101, 'A', 'C', 'D', 'E', 'F', 'Y', 'N', 255);
+        break;
     }
 }
 

@@ -12,7 +12,7 @@ struct file {
     uint8_t bytes[FILE_ROOM];
 };
 
-/* A file that is accepted, if its figures are: no student to hundreds, most of them eligible. */
+/* A file that is accepted, if its figures are: no student to hundreds, about half of them eligible. */
 void make_file(struct file *f);
 
 /* One damage: a byte, a length, a field dropped, doubled or moved, an end too soon or too late, one too many, one again, a figure. */

@@ -110,11 +110,9 @@ static int letter_and_number_right(struct subject s, struct result r)
     return is_general(s) ? within(r.number, 1, 100) : r.number == 0;
 }
 
-/* Usable: kinds 1 to 4, or VET with `Y` and level 3 or more; and a year within the assessment year and the four before it. */
-static int is_usable(struct subject s, struct result r, uint32_t year)
+/* Usable: kinds 1 to 4, or VET with `Y` and level 3 or more. It has no year rule. */
+static int is_usable(struct subject s, struct result r)
 {
-    if (r.year + 4 < year || r.year > year)
-        return 0;
     if (s.kind == VET)
         return r.letter == 'Y' && s.level >= 3;
     return within(s.kind, GENERAL, APPLIED);
@@ -177,7 +175,7 @@ static struct refusal read_result(struct record *of, size_t i, const uint8_t *ca
     if (!letter_and_number_right(s, r) || !within(r.year, FIRST_YEAR, year))
         return refused(4, i);
     of->subjects[i] = s;
-    of->usable[i] = is_usable(s, r, year);
+    of->usable[i] = is_usable(s, r);
     if (!of->usable[i])
         return accepted();
     of->scores[i] = score_in(table, r.place, slot_of(s, r));
@@ -199,7 +197,7 @@ static struct refusal judge_repeats(const struct record *of)
     return accepted();
 }
 
-/* English: some usable result with strand 1 has letter `A`, `B` or `C`. */
+/* English: some usable result with strand 1 has letter `A`, `B` or `C`. It may be shown from any year. */
 static int shows_english(const struct record *of)
 {
     for (size_t i = 0; i < of->count; i++)
@@ -228,7 +226,21 @@ static int clash(struct subject a, struct subject b)
     return has_identity(a) && has_identity(b) && a.identity == b.identity;
 }
 
-/* Admissible: five kept results, at least four of them General, and no clash. */
+/* By how much the latest year of the five exceeds their earliest. */
+static uint32_t span_of(const struct record *of, const size_t set[5])
+{
+    uint32_t earliest = of->results[set[0]].year, latest = earliest;
+    for (int i = 1; i < 5; i++) {
+        uint32_t year = of->results[set[i]].year;
+        if (year < earliest)
+            earliest = year;
+        if (year > latest)
+            latest = year;
+    }
+    return latest - earliest;
+}
+
+/* Admissible: five kept results, at least four of them General, no clash, and a span of at most four years. */
 static int is_admissible(const struct record *of, const size_t set[5])
 {
     int general = 0;
@@ -240,7 +252,7 @@ static int is_admissible(const struct record *of, const size_t set[5])
             if (clash(of->subjects[set[i]], of->subjects[set[j]]))
                 return 0;
     }
-    return general >= 4;
+    return general >= 4 && span_of(of, set) <= 4;
 }
 
 /* A set is taken if it is the first that is admissible, or its sum is greater. */
