@@ -215,8 +215,8 @@ module _ (s : Student) (test : Test) (m : TestOf s test) where
       }
 
 -- the test that is made of what is read
-abbrev pub testOf : Read → ℕ → Packed → Packed → Test
-testOf read kept identities far = record {
+abbrev pub testOf : Read → ℕ → Packed → Packed → Bool → Test
+testOf read kept identities far spread = record {
   kept = kept;
   general = read .masks .general;
   «general_english» = read .masks .«general_english»;
@@ -225,12 +225,13 @@ testOf read kept identities far = record {
   «applied_maths» = read .masks .«applied_maths»;
   identities = identities;
   far = far;
+  spread = spread;
 }
 
-pub test-of : (s : Student) (table : List ℕ) (read : Read) (mask : ℕ) (packed others : Packed) (masks : List ℕ) → held s ≤ mostResults → AllRead s table read
+pub test-of : (s : Student) (table : List ℕ) (read : Read) (mask : ℕ) (packed others : Packed) (spread : Bool) (masks : List ℕ) → held s ≤ mostResults → AllRead s table read
     → MaskOf (keptIn (s .results) (read .masks .usable)) (held s) mask → ((i : ℕ) → i < mostResults → valueIn packed i ≡ valueAt (read .identities) i)
-    → FarBefore (s .results) masks → ((i : ℕ) → i < mostResults → valueIn others i ≡ valueAt masks i) → TestOf s (testOf read mask packed others)
-test-of s table read mask packed others masks few a k e far g =
+    → FarBefore (s .results) masks → ((i : ℕ) → i < mostResults → valueIn others i ≡ valueAt masks i) → TestOf s (testOf read mask packed others spread)
+test-of s table read mask packed others spread masks few a k e far g =
     let m = a .masks-are in
     record {
       kept-are = subst (λ (f : ℕ → Bool). MaskOf f (held s) mask) (kept-is s (read .masks .usable) (m .usable-are)) k;

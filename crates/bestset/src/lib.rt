@@ -32,7 +32,8 @@ fn choose(catalogue: &[u8], table: &[u8], year: u64, results: &[u8], read: Read)
     let masks = read.masks;
     let scores = read.scores;
     let identities = read.identities;
-    let far = spans::far_of(results);
+    let masked = spans::far_of(results);
+    let far = packing::pack(&masked);
     let test = Test {
         kept: repeats::kept_of(results, masks.usable),
         general: masks.general,
@@ -41,7 +42,8 @@ fn choose(catalogue: &[u8], table: &[u8], year: u64, results: &[u8], read: Read)
         general_maths: masks.general_maths,
         applied_maths: masks.applied_maths,
         identities: packing::pack(&identities),
-        far: packing::pack(&far),
+        far,
+        spread: packing::some(far),
     };
     let lead = search::search(test, &scores, results.len() / RESULT_BYTES);
     match lead {

@@ -128,6 +128,11 @@ goes-on at set t h l p q =
     let o : 2 ^ at + set ≡ 1 * 2 ^ at + set = omega arith in
     b ∙ ap (bit at) (m ∙ o) ∙ top-bit at 1 set l
 
+-- and every member of the set
+still-in : (at set t j : ℕ) → set < 2 ^ at → t % 2 ^ at ≡ set → In j set → In j t
+still-in at set t j l e m =
+    ap (bit j) (sym (split t at)) ∙ low-bit j at (t / 2 ^ at) (t % 2 ^ at) (in-lt at set j l m) ∙ ap (bit j) e ∙ m
+
 module _ {mask held at set : ℕ} (h : at < held) (a : Before mask held at set) where
   join-at : In at mask → Before mask held (suc at) (1 * 2 ^ at + set)
   join-at b =
@@ -216,17 +221,18 @@ module _ {Adm : ℕ → Type 0} {score : ℕ → ℕ} {mask held : ℕ} where
       passed : {best′ : Lead} → Tried Adm score (room (suc at) set) best′ → Stands Adm score mask held (room (at + 1) set) best′ (at + 1) set sum
       passed w = rw (add-one at) (record { place = skip-at h (s .place); worth = s .worth; tried = w })
 
-      -- result `at` is passed over
-      pub skips : bit at mask ≡ 0 → Stands Adm score mask held (room (at + 1) set) best (at + 1) set sum
+      -- result `at` is passed over: no admissible set has it beside the members
+      pub passes-over : ((t : ℕ) → Adm t → ((j : ℕ) → In j set → In j t) → In at t → ⊥) → Stands Adm score mask held (room (at + 1) set) best (at + 1) set sum
       unfolding room
-      skips d =
+      passes-over never =
           let g = half-room at under-mostResults in
           passed
           (tried-lower Adm score (room at set) (room (suc at) set) best (omega arith)
-          (λ t p q a.
-          let i = goes-on at set t under-mostResults (s .place .small) p q in
-          let k = fives .kept t a at i in
-          omega arith) (s .tried))
+          (λ t p q a. never t a (λ j m. still-in at set t j (s .place .small) (ahead t (omega arith) q) m) (goes-on at set t under-mostResults (s .place .small) p q)) (s .tried))
+
+      -- one that is not kept
+      pub skips : bit at mask ≡ 0 → Stands Adm score mask held (room (at + 1) set) best (at + 1) set sum
+      skips d = passes-over (λ t a m i. let k = fives .kept t a at i in omega arith)
 
       module _ (d : In at mask) {set′ : ℕ} (e : set′ ≡ bitOr set (1 * 2 ^ at % 65536)) where
         set-is : set′ ≡ 1 * 2 ^ at + set

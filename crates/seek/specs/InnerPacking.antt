@@ -1,9 +1,10 @@
 -- Numbers by position: in a list, and packed, those of 16 bits four to a word, the first the lowest.
 use Prim.Native.Nat.{ℕ, _*_, _/_, _%_, _^_}
 use mathlib.Core.Path.{_≡_}
+use mathlib.Core.Bool.{Bool, _||_}
 use mathlib.Core.List.{List}
 use lib.ListN.{getD}
-use Rattle.paper.specs.Words.{_=?_, if_then_else_}
+use Rattle.paper.specs.Words.{_=?_, _≠?_, if_then_else_}
 use Rattle.seek.specs.declared.packing.Packed.{Packed}
 
 -- the value at a position; 0 past the list
@@ -26,6 +27,10 @@ wordOf packed word = if word =? 0 then packed .first else if word =? 1 then pack
 
 unfoldable pub valueIn : Packed → ℕ → ℕ
 valueIn packed i = wordOf packed (i / perWord) / 2 ^ (numberBits * (i % perWord)) % numbers
+
+-- some number is not 0
+abbrev pub someIn : Packed → Bool
+someIn packed = packed .first ≠? 0 || (packed .second ≠? 0 || (packed .third ≠? 0 || packed .fourth ≠? 0))
 
 -- a word holds these four numbers
 pub record FourIn (word a b c d : ℕ) : Type 0 where

@@ -58,6 +58,11 @@ pub record Allowed (test : Test) (set : ℕ) : Type 0 where
   pub distinct : Distinct (valueIn (test .identities)) set
   pub near : Near (valueIn (test .far)) set
 
+-- a result may join a set, and then it is kept; or may not, and then no admissible set has it beside the members
+abbrev pub MayJoin : Test → ℕ → ℕ → Bool → Type 0
+MayJoin test set i true = In i (test .kept)
+MayJoin test set i false = (t : ℕ) → Allowed test t → ((j : ℕ) → In j set → In j t) → In i t → ⊥
+
 -- a test's answer
 abbrev pub Decides : Bool → Type 0 → Type 0
 Decides true P = P

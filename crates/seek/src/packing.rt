@@ -2,7 +2,7 @@
 ghost use mathlib.Core.Path.{_≡_};
 ghost use Prim.Native.Nat.{ℕ, _<_};
 ghost use Rattle.paper.specs.Limits.{mostResults};
-ghost use Rattle.seek.specs.InnerPacking.{valueAt, wordOf, valueIn, FourIn};
+ghost use Rattle.seek.specs.InnerPacking.{valueAt, wordOf, valueIn, someIn, FourIn};
 use paper::limits::MOST_RESULTS;
 use paper::widening::wide16;
 
@@ -37,6 +37,22 @@ pub fn pack(values: &[u16; MOST_RESULTS]) -> Packed
         third: four(values[8], values[9], values[10], values[11]),
         fourth: four(values[12], values[13], values[14], values[15]),
     }
+}
+
+// Whether some number is not 0.
+pub fn some(packed: Packed) -> bool
+    ensures { λ r. ⌜ r ≡ someIn packed ⌝ }
+{
+    if packed.first != 0 {
+        return true;
+    }
+    if packed.second != 0 {
+        return true;
+    }
+    if packed.third != 0 {
+        return true;
+    }
+    packed.fourth != 0
 }
 
 // A word, from 0 to 3.

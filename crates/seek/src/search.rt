@@ -3,7 +3,7 @@
 ghost use Prim.Native.Nat.{_<_};
 ghost use Rattle.paper.specs.Limits.{mostResults};
 ghost use Rattle.seek.specs.InnerPacking.{valueIn, valueAt};
-ghost use Rattle.seek.specs.InnerTest.{OfHeld, OfKept, Distinct, Shares, Near, Allowed, Decides, Beats, Answers};
+ghost use Rattle.seek.specs.InnerTest.{OfHeld, OfKept, Distinct, Shares, Near, Allowed, MayJoin, Decides, Beats, Answers};
 ghost use Rattle.seek.specs.InnerSearch.{Sought, key, Tried, StandsWith, Bettered};
 use crate::packing;
 use crate::packing::Packed;
@@ -18,7 +18,8 @@ const MEMBER_COUNT: usize = MEMBERS as usize;
 const STEPPED: usize = MEMBER_COUNT - 2;
 
 // What the test of a set reads: the kept results and those of each sort that the rules of sets ask for, bit i for result i; and by position the
-// identities, 0 where there is none, and the results before each that are too far from it in years, bit j for result j.
+// identities, 0 where there is none, and the results before each that are too far from it in years, bit j for result j. `spread` says whether there
+// are any: of a student whose results are of few years those are not looked up for each result that joins.
 pub struct Test {
     pub kept: u16,
     pub general: u16,
@@ -28,6 +29,7 @@ pub struct Test {
     pub applied_maths: u16,
     pub identities: Packed,
     pub far: Packed,
+    pub spread: bool,
 }
 
 // The best set so far with its sum, or none.
@@ -83,6 +85,20 @@ fn near(far: Packed, held: usize, set: u16) -> bool
         i += 1;
     }
     true
+}
+
+// Whether result i may join a set of results before it: it is kept, and no member is too far from it.
+fn may_join(test: Test, set: u16, i: usize) -> bool
+    requires { ⌜ i < mostResults ⌝ }
+    ensures { λ r. ⌜ MayJoin test set i r ⌝ }
+{
+    if test.kept & (1u16 << i) == 0 {
+        return false;
+    }
+    if !test.spread {
+        return true;
+    }
+    set & packing::value_in(test.far, i) == 0
 }
 
 // Whether a set of kept results is admissible.
@@ -193,8 +209,8 @@ pub fn search(test: Test, scores: &[u32; MOST_RESULTS], held: usize) -> Lead
     'sets: loop {
         let members = u16::count_ones(set) as usize;
         if members < STEPPED && at + MEMBER_COUNT <= held + members {
-            // members and results left can come to five: result `at` joins, if it is kept
-            if test.kept & (1u16 << at) != 0 {
+            // members and results left can come to five: result `at` joins, if it may
+            if may_join(test, set, at) {
                 set = set | (1u16 << at);
                 sum += scores[at];
             }

@@ -10,23 +10,21 @@ use Rattle.bestset.proofs.choose.Tie as tie
 use Rattle.bestset.proofs.repeats.kept_of.Reads as kept-of-reads
 use Rattle.bestset.proofs.spans.far_of.Reads as far-of-reads
 use Rattle.seek.proofs.packing.pack.Reads as pack-reads
+use Rattle.seek.proofs.packing.some.Reads as some-reads
 use Rattle.seek.proofs.search.search.Reads as search-reads
 
 -- the places: the start, and after the calls
 abbrev start : tie.After-identities → tie.Start
 start c = c .before .before .before .before .before .before
 
-abbrev marked : tie.After-kept-of → tie.After-far-of
-marked c = c .before
+abbrev marked : tie.After-pack → tie.After-far-of
+marked c = c .before .before
 
-abbrev begun : tie.After-kept-of → tie.Start
-begun c = start (marked c .before)
+abbrev kept : tie.After-some → tie.After-kept-of
+kept c = c .before .before .before
 
-abbrev packed : tie.After-pack2 → tie.After-pack
-packed c = c .before .before
-
-abbrev kept : tie.After-pack2 → tie.After-kept-of
-kept c = packed c .before .before
+abbrev begun : tie.After-some → tie.Start
+begun c = start (marked (kept c .before) .before)
 
 -- the student and the table; what the search reads
 module _ (s : tie.Start) where
@@ -36,21 +34,21 @@ module _ (s : tie.Start) where
   abbrev table : List ℕ
   table = s .args .table .now
 
-abbrev test : tie.After-pack2 → Test
-test c = testOf (begun (kept c) .args .read) (kept c .kept-of .result) (packed c .pack .result) (c .pack2 .result)
+abbrev test : tie.After-some → Test
+test c = testOf (begun c .args .read) (kept c .kept-of .result) (c .before .pack2 .result) (kept c .before .pack .result) (c .some .result)
 
-tests : (c : tie.After-pack2) → TestOf (who (begun (kept c))) (test c)
+tests : (c : tie.After-some) → TestOf (who (begun c)) (test c)
 tests c =
-    let d = kept c in
-    let s = begun d in
-    let k = d .kept-of in
-    test-of (who s) (table s) (s .args .read) (k .result) _ _ (marked d .far-of .result) (few-held (who s) (table s) (s .pre .formed)) (s .pre .all) (k .ensures) (packed c .pack .ensures)
-    (marked d .far-of .ensures) (c .pack2 .ensures)
+    let s = begun c in
+    let k = kept c .kept-of in
+    let p = kept c .before in
+    let f = marked p .far-of in
+    test-of (who s) (table s) (s .args .read) (k .result) _ _ _ (f .result) (few-held (who s) (table s) (s .pre .formed)) (s .pre .all) (k .ensures) (c .before .pack2 .ensures) (f .ensures) (p .pack .ensures)
 
-answered : (c : tie.After-search) → let s = begun (kept (c .before .before)) in Answered (who s) (table s) (outcome (c .search .result))
+answered : (c : tie.After-search) → let s = begun (c .before .before) in Answered (who s) (table s) (outcome (c .search .result))
 answered c =
     let d = c .before .before in
-    let s = begun (kept d) in
+    let s = begun d in
     found-answered _ _ (s .pre .formed) (test d) (tests d) (s .args .read .scores) (s .pre .all .scores-are) (c .search .result) (c .search .ensures)
 
 far-of-requires : tie.Need-far-of-requires
@@ -58,21 +56,24 @@ far-of-requires c κs =
     let s = start c in
     few-held (who s) (table s) (s .pre .formed)
 
-kept-of-requires : tie.Need-kept-of-requires
-kept-of-requires c κs =
-    let s = start (c .before) in
-    few-held (who s) (table s) (s .pre .formed)
-
 pack-requires : tie.Need-pack-requires
 pack-requires c κs = search needs
+
+kept-of-requires : tie.Need-kept-of-requires
+kept-of-requires c κs =
+    let s = start (marked c .before) in
+    few-held (who s) (table s) (s .pre .formed)
 
 pack-requires-2 : tie.Need-pack-requires-2
 pack-requires-2 c κs = search needs
 
+some-requires : tie.Need-some-requires
+some-requires c κs = search needs
+
 search-requires : tie.Need-search-requires
 search-requires c κs =
     let d = c .before in
-    let s = begun (kept d) in
+    let s = begun d in
     sought (who s) (table s) (s .pre .formed) (test d) (tests d) (s .args .read .scores) (s .pre .all .scores-are)
 
 enum-told : tie.Need-enum-told
@@ -92,9 +93,10 @@ choose-spec =
     tie.close
     (tie.spec
     far-of-requires
-    kept-of-requires
     pack-requires
+    kept-of-requires
     pack-requires-2
+    some-requires
     search-requires
     enum-told
     enum-known-lead

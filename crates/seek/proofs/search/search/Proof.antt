@@ -1,4 +1,4 @@
-use Rattle.seek.proofs.Steps.{fives, left, starts, short, skips, more, joins, back, out-most, out-fewer, out, out-less, finish, sum-fits, skip-less, join-less}
+use Rattle.seek.proofs.Steps.{fives, left, starts, short, passes-over, more, joins, back, out-most, out-fewer, out, out-less, finish, sum-fits, skip-less, join-less}
 use Rattle.seek.proofs.Digits.{test-in, test-out}
 use Rattle.seek.specs.InnerSearch.{key, room, Tried, Stands}
 use Rattle.seek.specs.InnerPacking.{valueAt}
@@ -14,6 +14,7 @@ use borrow.Author.Needs.{needs}
 use Rattle.paper.specs.Limits.{mostResults, members}
 use Rattle.seek.proofs.search.search.Statement.{statement}
 use Rattle.seek.proofs.search.search.Tie as tie
+use Rattle.seek.proofs.search.may_join.Reads as may-join-reads
 use Rattle.seek.proofs.search.with_fourth.Reads as with-fourth-reads
 
 -- the results after the last member are open again down to `at`, and the best is that of the sets tried: all that go on from the set, and those before them
@@ -30,7 +31,7 @@ Inv-sets test scores held best₀ set₀ sum₀ at₀ best set sum at = (ones se
 abbrev μ-sets : tie.MeasureT-sets
 μ-sets test scores held best₀ set₀ sum₀ at₀ best set sum at = left at set
 
--- the places: at a set; where a result can join it, where a kept one does, and after; where none can, and after the sets of three; where the last member leaves
+-- the places: at a set; where a result can join it, where one that may does, and after; where none can, and after the sets of three; where the last member leaves
 abbrev joining : tie.Then2 Inv-back μ-back Inv-sets μ-sets → tie.At-sets Inv-back μ-back Inv-sets μ-sets
 joining c = c .before .before
 
@@ -77,11 +78,8 @@ add-if2 c = search needs
 add-if2-2 : tie.Need-add-if2-2 Inv-back μ-back Inv-sets μ-sets
 add-if2-2 c = search needs
 
-cast-if3 : tie.Need-cast-if3 Inv-back μ-back Inv-sets μ-sets
-cast-if3 c = search needs
-
-shl-if3 : tie.Need-shl-if3 Inv-back μ-back Inv-sets μ-sets
-shl-if3 c = omega (arith, enough c, few (joining c))
+may-join-requires : tie.Need-may-join-requires Inv-back μ-back Inv-sets μ-sets
+may-join-requires c κs = omega (arith, enough c, few (joining c))
 
 cast-set : tie.Need-cast-set Inv-back μ-back Inv-sets μ-sets
 cast-set c = search needs
@@ -122,9 +120,9 @@ sets-again c =
     let most = few s in
     ⊎-elim
     (λ v.
-    let b = test-in (g .kept) (s .sets .at) (omega arith) (v .0 .taken) in
+    let b : In (s .sets .at) (g .kept) = rw (v .0 .taken) at (c .before .may-join .ensures) in
     (omega (arith, more w (s .sets .inv .1) (omega arith) b (v .2), joined c .before .if1 .taken), joins w (s .sets .inv .1) (omega arith) b (v .2) (v .3)))
-    (λ v. rw (v .1, v .2) (s .sets .inv .0, skips w (s .sets .inv .1) (omega arith) (test-out (g .kept) (s .sets .at) (omega arith) (v .0 .left))))
+    (λ v. rw (v .1, v .2) (s .sets .inv .0, passes-over w (s .sets .inv .1) (omega arith) (rw (v .0 .left) at (c .before .may-join .ensures))))
     (c .if3 .came)
 
 with-fourth-requires : tie.Need-with-fourth-requires Inv-back μ-back Inv-sets μ-sets
@@ -217,8 +215,7 @@ search-spec =
     cast-members
     add-if2
     add-if2-2
-    cast-if3
-    shl-if3
+    may-join-requires
     cast-set
     shl-set
     mul-sum
