@@ -1,3 +1,7 @@
+use Prim.Native.Nat.{_+_, _≤_, _<_}
+use native.Mathlib.Omega.{arith}
+use mathlib.Core.Path.{refl}
+use Rattle.paper.specs.Limits.{mostSpan}
 use borrow.Author.Tests.{lt-ltb, le-ltb}
 use borrow.Author.Needs.{needs}
 use Rattle.bestset.proofs.spans.too_far.Statement.{statement}
@@ -17,10 +21,16 @@ add-result : tie.Need-add-result
 add-result c = search needs
 
 returns : tie.Need-returns
-returns c = simp (← (c .before .before .wide16 .ensures .0), ← (c .before .wide162 .ensures .0), lt-ltb _ _ (c .if1 .taken))
+returns c =
+    let a = c .before .before .before .args in
+    let l : a .one + mostSpan < a .other = omega (arith, c .before .before .wide16 .ensures .0, c .before .wide162 .ensures .0, c .if1 .taken) in
+    simp (lt-ltb _ _ l, lt-ltb _ _ (c .if1 .taken)) refl
 
 returns-2 : tie.Need-returns-2
-returns-2 c = simp (← (c .before .before .wide16 .ensures .0), ← (c .before .wide162 .ensures .0), le-ltb _ _ (c .if1 .left))
+returns-2 c =
+    let a = c .before .before .before .args in
+    let l : a .other ≤ a .one + mostSpan = omega (arith, c .before .before .wide16 .ensures .0, c .before .wide162 .ensures .0, c .if1 .left) in
+    simp (le-ltb _ _ l, c .before .before .wide16 .ensures .0, c .before .wide162 .ensures .0)
 
 pub too-far-spec : {M : Type 1} → statement M
 too-far-spec =
