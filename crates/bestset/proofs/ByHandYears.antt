@@ -2,20 +2,19 @@
 use Prim.Native.Nat.{ℕ}
 use mathlib.Core.Path.{_≡_, refl}
 use mathlib.Core.Bool.{Bool, true, false}
-use mathlib.Core.List.{List, [], _∷_}
+use mathlib.Core.List.{List, []}
 use Rattle.paper.specs.Bytes.{word}
 use Rattle.paper.specs.Lists.{first}
-use Rattle.paper.specs.Rulings.{Outcome, refused, _at_, inTurn}
+use Rattle.paper.specs.Rulings.{refused, _at_, inTurn}
 use Rattle.paper.specs.Letters.{letterA, letterB, letterC, letterD}
 use Rattle.catalogue.specs.Catalogue.{outside}
 use Rattle.scores.specs.Scores.{found, slotOf}
 use Rattle.seek.specs.Sets.{onesFrom, sumOver, countOver}
-use Rattle.results.specs.Results.{Student, student}
+use Rattle.results.specs.Results.{student}
 use Rattle.results.specs.Scoring.{scoreFound, score}
 use Rattle.results.specs.Counting.{usable, usableAt, showsEnglish, kept}
 use Rattle.bestset.specs.Rules.{wrong, unscored, repeated}
-use Rattle.bestset.specs.Promise.{Values}
-use Rattle.bestset.specs.Computed.{admissible, earlier, chosen, computed}
+use Rattle.bestset.specs.Computed.{admissible, earlier, chosen}
 use Rattle.bestset.specs.Examples.{slots, dated, mature, renewed, longAgo}
 use Rattle.bestset.proofs.ByHand.{gives, best}
 use Rattle.bestset.proofs.ByHandSets.{catalogue, english, maths, biology, chemistry, physics}

@@ -3,10 +3,10 @@ use mathlib.Core.Bool.{_||_}
 use mathlib.Core.Path.{_≡_, refl}
 use Prim.Native.Nat.{ℕ}
 use borrow.Author.Tests.{eq-eqb, ne-eqb}
-use borrow.Author.Needs.{needs}
 use Rattle.seek.proofs.packing.some.Statement.{statement}
 use Rattle.seek.proofs.packing.some.Tie as tie
 
+-- the first three are 0
 only-last : (a b c d : ℕ) → a ≡ 0 → b ≡ 0 → c ≡ 0 → (d ≠? 0) ≡ (a ≠? 0 || (b ≠? 0 || (c ≠? 0 || d ≠? 0)))
 only-last a b c d x y z = rw (x, y, z) refl
 

@@ -6,7 +6,6 @@ use borrow.Author.Tests.{eqb-true, eqb-false, not-true, not-false}
 use Rattle.seek.specs.InnerTest.{Allowed, Distinct, Apart, Near, OfKept, OfHeld}
 use Rattle.seek.specs.InnerPacking.{valueIn}
 use Rattle.seek.proofs.Meets.{length-set, count-set, both, apart-one, apart-other, decide}
-use borrow.Author.Needs.{needs}
 use Rattle.seek.proofs.search.admissible.Statement.{statement}
 use Rattle.seek.proofs.search.admissible.Tie as tie
 use Rattle.seek.proofs.search.distinct.Reads as distinct-reads
