@@ -69,11 +69,12 @@ letterless more = took 1 70 1 2021 more
 abbrev pub unknown : List ℕ → List ℕ
 unknown more = took 4 letterC 1 2021 more
 
--- of one result 3 before 4, and 4 before 5
+-- of one result 3 before 4, and 4 before 5; a year of 1979 is 4, with no slot too, and one of 1980 with no slot is 5
 pub one-result : (in2021 (took 4 70 1 2021 []) ≡ refused (3 at 0)) × (in2021 (took 4 letterC 1 1979 []) ≡ refused (3 at 0)) × (in2021 (took 0 70 3 2021 []) ≡ refused (4 at 0)) × (in2021 (took 0 letterC 0 2021 []) ≡ refused (4 at 0))
-    × (in2021 (took 0 letterC 101 2021 []) ≡ refused (4 at 0)) × (in2021 (took 0 letterC 3 2021 []) ≡ refused (5 at 0))
+    × (in2021 (took 0 letterC 101 2021 []) ≡ refused (4 at 0)) × (in2021 (took 0 letterC 3 2021 []) ≡ refused (5 at 0)) × (in2021 (took 0 letterC 3 1979 []) ≡ refused (4 at 0))
+    × (in2021 (took 0 letterC 3 1980 []) ≡ refused (5 at 0))
 unfolding first word outside inTurn repeated usableAt showsEnglish usable wrong unscored scoreFound found slotOf
-one-result = (refl, refl, refl, refl, refl, refl)
+one-result = (refl, refl, refl, refl, refl, refl, refl, refl)
 
 -- subjects of the catalogue: the last of it, and one past it; one of 256 and more
 pub subjects : (in2021 (took 3 letterC 0 2021 []) ≡ refused (7 at 0)) × (in2021 (unknown []) ≡ refused (3 at 0)) × (in2021 (1 ∷ 0 ∷ letterC ∷ 1 ∷ 7 ∷ 229 ∷ []) ≡ refused (3 at 0))

@@ -69,6 +69,12 @@ pub old-english : (best (longAgo letterC) ≡ gives 25000 62) × (best (longAgo 
 unfolding slots first word inTurn outside found slotOf onesFrom sumOver countOver scoreFound score usable usableAt showsEnglish kept wrong unscored repeated admissible earlier chosen
 old-english = (refl, refl)
 
+-- 7 before 8: English D of 2011 and four of 2013 to 2016; a C of 1990 alone is 8
+pub seven-first : (best (dated 0 letterD 50 2011 (dated 1 letterB 50 2013 (dated 3 letterB 50 2014 (dated 4 letterB 50 2015 (dated 5 letterB 50 2016 []))))) ≡ refused (7 at 0))
+    × (best (dated 0 letterC 50 1990 []) ≡ refused (8 at 0))
+unfolding slots first word inTurn outside found slotOf onesFrom sumOver countOver scoreFound score usable usableAt showsEnglish kept wrong unscored repeated admissible earlier chosen
+seven-first = (refl, refl)
+
 -- English of 2012 and again in 2016 or 2017: the five are the later one and those of 2013 to 2016; again in 2018 or 2021 it takes the one of 2012 out of the set that
 -- needed it, and there is none
 pub repeats : (best (renewed 2016) ≡ gives 29000 62) × (best (renewed 2017) ≡ gives 29000 62) × (best (renewed 2018) ≡ refused (8 at 0)) × (best (renewed 2021) ≡ refused (8 at 0))
