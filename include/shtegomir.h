@@ -61,9 +61,10 @@ struct shtegomir_best {
 /* Finds the five results of a student that count for most.
  *
  * A result is usable if it is of kinds 1 to 4, or VET with 'Y' and level 3 or more; of any year. English is shown by a usable result of
- * strand 1 with 'A', 'B' or 'C', of any year. A set is admissible if it has five usable results, of a subject none but that of the latest
- * year; at least four of kinds 1 to 3; not both one of these and an Applied of English, nor both of Mathematics; no two of kinds 1 or 3
- * with one identity; and its latest year exceeds its earliest by at most four. These years need not be near the assessment year.
+ * strand 1 with 'A', 'B' or 'C', of any year. A set is admissible if it has five usable results, each the latest usable one of its
+ * subject; at least four of kinds 1 to 3; not both one of kinds 1 to 3 and one of kind 4 of strand 1, nor both of strand 2; no two of
+ * kinds 1 or 3 with one identity; and its latest year exceeds its earliest by at most four. These years need not be near the assessment
+ * year.
  *
  *   catalogue  5 bytes to a subject, at most 64 subjects:
  *                kind      1 General, 2 General extension, 3 Senior External Examination, 4 Applied, 5 short course, 6 VET

@@ -100,15 +100,17 @@ unfolding first word outside inTurn repeated usableAt showsEnglish usable wrong 
 five-before-six = (refl, refl, refl, refl)
 
 -- 6: two usable results of one subject and year, the later one, and of two such the lower; another year or subject, be its entry the same, a short course, VET with N are none;
--- of old years as of new ones
+-- of old years as of new ones, of VET too, and where a later result replaces both; 2040 and 2296, whose low bytes are the same, are two years
 pub twice : (in2021 (good (good [])) ≡ refused (6 at 1)) × (in2021 (good (took 1 letterC 1 2021 (took 1 letterC 2 2021 (good [])))) ≡ refused (6 at 2)) × (in2021 (good (took 0 letterC 1 2020 [])) ≡ accepted tt)
     × (in2021 (good (took 1 letterC 1 2021 [])) ≡ accepted tt) × (in2021 (good (took 3 letterC 0 2021 (took 3 letterC 0 2021 []))) ≡ accepted tt)
     × (in2021 (good (took 2 letterN 0 2021 (took 2 letterN 0 2021 []))) ≡ accepted tt) × (in2021 (good (took 1 letterC 1 2016 (took 1 letterC 1 2016 []))) ≡ refused (6 at 2))
     × (in2021 (good (took 1 letterC 1 1980 (took 1 letterC 2 1980 []))) ≡ refused (6 at 2)) × (in2021 (good (took 1 letterC 1 1980 (took 1 letterC 2 1981 []))) ≡ accepted tt) × (in2021 (good (took 2 letterY 0 2021 (took 2 letterY 0 2021 []))) ≡ refused (6 at 2))
     × (in2021 (good (took 2 letterY 0 2021 (took 2 letterN 0 2021 []))) ≡ accepted tt) × (in2021 (good (took 2 letterN 0 2021 (took 2 letterY 0 2021 []))) ≡ accepted tt)
     × (ruling (student (biology 2) 2021 (took 0 letterC 1 2021 (took 1 letterC 1 2021 []))) (replicate 400 0) ≡ refused (7 at 0))
+    × (in2021 (took 0 letterC 1 2016 (took 0 letterC 2 2016 (good []))) ≡ refused (6 at 1)) × (in2021 (good (took 2 letterY 0 1990 (took 2 letterY 0 1990 []))) ≡ refused (6 at 2))
+    × (ruling (student (biology 1) 2300 (took 0 letterC 1 2040 (took 0 letterC 1 2296 []))) (replicate 200 0) ≡ refused (7 at 0))
 unfolding first word outside inTurn repeated usableAt showsEnglish usable wrong unscored scoreFound found slotOf
-twice = (refl, refl, refl, refl, refl, refl, refl, refl, refl, refl, refl, refl, refl)
+twice = (refl, refl, refl, refl, refl, refl, refl, refl, refl, refl, refl, refl, refl, refl, refl, refl)
 
 -- 6 before 7, of old results too; and a student without English is well-formed
 pub six-before-seven : (in2021 (took 0 letterD 1 2021 (took 0 letterD 1 2021 [])) ≡ refused (6 at 1)) × (in2021 (took 0 letterD 1 1990 (took 0 letterD 1 1990 [])) ≡ refused (6 at 1)) × (in2021 (took 0 letterD 1 2021 []) ≡ refused (7 at 0)) × (in2021 (took 1 letterA 1 2021 []) ≡ refused (7 at 0))

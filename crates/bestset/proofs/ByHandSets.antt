@@ -152,12 +152,12 @@ pub fives : (admissible (of2021 six) 63 ≡ false) × (admissible (of2021 six) 3
 unfolding admissible kept usableAt usable first word onesFrom sumOver countOver
 fives = (refl, refl, refl, refl, refl)
 
--- kept results: Biology of 2020 and of 2021, and four more; the later one, and not the earlier
+-- kept results: Biology of two years, and four more of 2021; the later one, and not the earlier
 abbrev pub repeats : ℕ → ℕ → Student
 repeats early late = student catalogue 2021 (dated biology letterA 1 early (dated biology letterA 1 late (taken (english ∷ maths ∷ chemistry ∷ physics ∷ []))))
 
 pub kept-only : (admissible (repeats 2020 2021) 61 ≡ false) × (admissible (repeats 2020 2021) 62 ≡ true) × (admissible (repeats 2021 2020) 61 ≡ true) × (admissible (repeats 2021 2020) 62 ≡ false)
-    × (admissible (repeats 2012 2017) 62 ≡ true) × (admissible (repeats 2012 2017) 61 ≡ false) × (admissible (repeats 2017 2016) 62 ≡ false)
+    × (admissible (repeats 2012 2017) 62 ≡ true) × (admissible (repeats 2017 2018) 61 ≡ false) × (admissible (repeats 2018 2017) 62 ≡ false)
 unfolding admissible kept usableAt usable first word onesFrom sumOver countOver
 kept-only = (refl, refl, refl, refl, refl, refl, refl)
 

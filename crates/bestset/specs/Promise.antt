@@ -41,7 +41,7 @@ totalOf s table set = comesTo (scoreAt s table) set
 abbrev pub aggregateOf : ℕ → ℕ
 aggregateOf sum = sum
 
--- the chosen set is admissible, so all of five consecutive years, and gives the aggregate; no admissible set comes to more, and none that comes to as much is before it
+-- the chosen set is admissible, so within five consecutive years, and gives the aggregate; no admissible set comes to more, and none that comes to as much is before it
 pub record Chosen (s : Student) (table : List ℕ) (v : Values) : Type 0 where
   pub admissible : Admissible s (v .set)
   pub aggregate : v .aggregate ≡ aggregateOf (totalOf s table (v .set))

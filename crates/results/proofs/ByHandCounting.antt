@@ -54,9 +54,10 @@ letters = (refl, refl, refl, refl)
 
 -- strand 1; usable, by its kind; from any year
 pub english : (bytes (λ s. passes (made 1 s 0 letterA 2021)) ≡ 1 ∷ []) × (bytes (λ s. passes (made 4 s 0 letterC 2021)) ≡ 1 ∷ []) × (bytes (λ k. passes (made k 1 0 letterC 2021)) ≡ 1 ∷ 2 ∷ 3 ∷ 4 ∷ [])
-    × (years (λ y. passes (made 1 1 0 letterC y)) ≡ allYears) × (years (λ y. passes (made 4 1 0 letterC y)) ≡ allYears)
+    × (years (λ y. passes (made 1 1 0 letterC y)) ≡ allYears) × (years (λ y. passes (made 2 1 0 letterC y)) ≡ allYears) × (years (λ y. passes (made 3 1 0 letterC y)) ≡ allYears)
+    × (years (λ y. passes (made 4 1 0 letterC y)) ≡ allYears)
 unfolding usable listed
-english = (refl, refl, refl, refl, refl)
+english = (refl, refl, refl, refl, refl, refl, refl)
 
 -- subjects of a small catalogue: English, its external examination, a Certificate III, a short course, another Certificate III
 abbrev pub general : ℕ
@@ -99,9 +100,10 @@ pub kept-latest : (keeps (took general letterA 2021 []) ≡ 0 ∷ []) × (keeps 
     × (keeps (took general letterA 2021 (took general letterE 2020 [])) ≡ 0 ∷ []) × (keeps (took general letterA 2019 (took general letterA 2021 (took general letterA 2020 []))) ≡ 1 ∷ [])
     × (keeps (took general letterA 2021 (took general letterE 2021 [])) ≡ 0 ∷ 1 ∷ []) × (keeps (took general letterA 2017 (took general letterE 2021 [])) ≡ 1 ∷ [])
     × (keeps (took general letterA 2016 (took general letterE 2021 [])) ≡ 1 ∷ []) × (keeps (took general letterE 2021 (took general letterA 2012 [])) ≡ 0 ∷ [])
-    × (keeps (took general letterA 1980 (took general letterE 1985 (took general letterA 1984 []))) ≡ 1 ∷ [])
+    × (keeps (took general letterA 1980 (took general letterE 1985 (took general letterA 1984 []))) ≡ 1 ∷ []) × (keeps (took general letterA 1980 (took general letterE 2021 [])) ≡ 1 ∷ [])
+    × (keeps (took general letterA 2047 (took general letterE 2048 [])) ≡ 1 ∷ [])
 unfolding usable usableAt kept first word
-kept-latest = (refl, refl, refl, refl, refl, refl, refl, refl, refl, refl)
+kept-latest = (refl, refl, refl, refl, refl, refl, refl, refl, refl, refl, refl, refl)
 
 -- a later result that is not usable does not replace it: VET with N; nor does one of another subject, be it its external examination
 -- or its entry the same

@@ -8,7 +8,7 @@ use catalogue::kinds::ENGLISH;
 use paper::ranges;
 use paper::widening::wide8;
 
-// Kinds 1 to 4, or VET with Y and level 3 or more.
+// Kinds 1 to 4, or VET with Y and level 3 or more; of any year.
 pub fn usable(result: Result) -> bool
     ensures { λ r. ⌜ r ≡ usable result ⌝ }
 {

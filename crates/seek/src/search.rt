@@ -1,5 +1,5 @@
 // The search for the best set: those of five kept results are tried in dictionary order of their positions, up to three members by stepping, the fourth and
-// the fifth by loops. `held` is the number of results.
+// the fifth by loops; but not those whose first three are too far from each other in years. `held` is the number of results.
 ghost use Prim.Native.Nat.{_<_};
 ghost use Rattle.paper.specs.Limits.{mostResults};
 ghost use Rattle.seek.specs.InnerPacking.{valueIn, valueAt};
