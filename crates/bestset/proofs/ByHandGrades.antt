@@ -69,8 +69,10 @@ pub own-slot : (lacks 5000 2 0 letterA 1 2021 ≡ false) × (lacks 5000 2 0 lett
 unfolding unscored usable scoreFound found slotOf slots word
 own-slot = (refl, refl, refl, refl, refl)
 
--- asked of usable results only: not of a short course, of VET with N, of a Certificate II; of a General of any year, of 2021, 2016 and 1980
+-- asked of usable results only: not of a short course, of VET with N, of a Certificate II; of a General of any year, of 2021, 2016 and 1980, of an Applied
+-- and a Certificate III of 1990
 pub usable-only : (lacks missing 5 0 letterA 0 2021 ≡ false) × (lacks missing 6 3 letterN 0 2021 ≡ false) × (lacks missing 6 2 letterY 0 2021 ≡ false) × (lacks missing 1 0 letterA 1 2021 ≡ true)
     × (lacks missing 1 0 letterA 1 2016 ≡ true) × (lacks missing 1 0 letterA 1 1980 ≡ true) × (lacks 5000 1 0 letterA 1 1980 ≡ false)
+    × (lacks missing 4 0 letterA 0 1990 ≡ true) × (lacks missing 6 3 letterY 0 1990 ≡ true) × (lacks 5000 6 3 letterY 0 1990 ≡ false)
 unfolding unscored usable scoreFound found slotOf slots word
-usable-only = (refl, refl, refl, refl, refl, refl, refl)
+usable-only = (refl, refl, refl, refl, refl, refl, refl, refl, refl, refl)
