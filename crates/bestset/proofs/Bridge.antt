@@ -90,14 +90,15 @@ unfolding kept
 kept-held s i e = usable-held s i (both-true (usableAt s i) (not (some (held s) (later s i))) e .0)
 
 module _ (s : Student) (table : List ℕ) (w : WellFormed s table) where
-  -- a well-formed student breaks no rule of the catalogue, none of lengths, nor one of a result
-  pub rules-kept : Unbroken (catalogueRules (s .catalogue)) × Unbroken (inputRules s table) × ((i : ℕ) → i < held s → Unbroken (resultRules s table i))
+  -- a well-formed student breaks no rule of the catalogue, none of lengths, nor one of a result, and has none repeated
+  pub rules-kept : Unbroken (catalogueRules (s .catalogue)) × Unbroken (inputRules s table) × ((i : ℕ) → i < held s → Unbroken (resultRules s table i)) × (some (held s) (repeated s) ≡ false)
   rules-kept =
       let turns = turnRules s table in
       let rest = turns ++ (repeatRule s ∷ []) in
       let k = unbroken-parts (catalogueRules (s .catalogue)) (inputRules s table ++ rest) (all-unbroken (studentRules s table) tt tt w) in
       let l = unbroken-parts (inputRules s table) rest (k .1) in
-      (k .0, l .0, unbroken-turns (held s) (resultRules s table) (unbroken-parts turns (repeatRule s ∷ []) (l .1) .0))
+      let m = unbroken-parts turns (repeatRule s ∷ []) (l .1) in
+      (k .0, l .0, unbroken-turns (held s) (resultRules s table) (m .0), m .1 .0)
 
   -- so at most mostResults results are held
   pub few-held : held s ≤ mostResults

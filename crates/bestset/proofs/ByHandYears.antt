@@ -77,7 +77,7 @@ unfolding admissible kept usableAt usable first word onesFrom sumOver countOver
 over-five = (refl, refl, refl, refl, refl, refl)
 
 -- a student of 2012 to 2016 is accepted in 2021, and one of 2013 to 2017; of 2011 to 2016, or 2012 to 2017, there is no set
-pub stretches : (best (mature 2012 2016) ≡ gives 25000 31) × (best (mature 2011 2016) ≡ refused (8 at 0)) × (best (mature 2012 2017) ≡ refused (8 at 0)) × (best (mature 2013 2017) ≡ gives 25000 31)
+pub stretches : (best (mature 2012 2016 []) ≡ gives 25000 31) × (best (mature 2011 2016 []) ≡ refused (8 at 0)) × (best (mature 2012 2017 []) ≡ refused (8 at 0)) × (best (mature 2013 2017 []) ≡ gives 25000 31)
 unfolding slots first word inTurn outside found slotOf onesFrom sumOver countOver scoreFound score usable usableAt showsEnglish kept wrong unscored repeated admissible earlier chosen
 stretches = (refl, refl, refl, refl)
 
@@ -106,7 +106,7 @@ unfolding slots first word inTurn outside found slotOf onesFrom sumOver countOve
 other-set = (refl, refl)
 
 -- of two stretches, 2012 to 2016 and 2013 to 2017, the better: the later one, and the earlier one
-pub better-stretch : (best (dated 0 letterC 50 2012 (dated 1 letterB 50 2013 (dated 3 letterB 50 2014 (dated 4 letterB 50 2015 (dated 5 letterB 50 2016 (dated 8 letterB 90 2017 [])))))) ≡ gives 29000 62)
-    × (best (dated 0 letterC 50 2012 (dated 1 letterB 50 2013 (dated 3 letterB 50 2014 (dated 4 letterB 50 2015 (dated 5 letterB 50 2016 (dated 8 letterB 40 2017 [])))))) ≡ gives 25000 31)
+pub better-stretch : (best (mature 2012 2016 (dated 8 letterB 90 2017 [])) ≡ gives 29000 62)
+    × (best (mature 2012 2016 (dated 8 letterB 40 2017 [])) ≡ gives 25000 31)
 unfolding slots first word inTurn outside found slotOf onesFrom sumOver countOver scoreFound score usable usableAt showsEnglish kept wrong unscored repeated admissible earlier chosen
 better-stretch = (refl, refl)

@@ -1,5 +1,6 @@
 -- Whatever meets the promise on a named student is exactly this answer.
 use mathlib.Core.Path.{_≡_, ap, _∙_}
+use mathlib.Core.List.{[]}
 use Rattle.results.specs.Results.{student}
 use Rattle.bestset.specs.Promise.{Promise}
 use Rattle.bestset.specs.Computed.{answer}
@@ -27,12 +28,12 @@ pub english-outside : (r : Answer) → Promise (student catalogue2 2021 english1
 english-outside r h = only (student catalogue2 2021 english10) table2 h ∙ ap answer outside-five
 
 -- a rule of the last years would refuse this student of 2012 to 2016
-pub mature-student : (r : Answer) → Promise (student catalogue2 2021 (mature 2012 2016)) table2 r → r ≡ Accepted 25000 31
-mature-student r h = only (student catalogue2 2021 (mature 2012 2016)) table2 h ∙ ap answer (stretches .0)
+pub mature-student : (r : Answer) → Promise (student catalogue2 2021 (mature 2012 2016 [])) table2 r → r ≡ Accepted 25000 31
+mature-student r h = only (student catalogue2 2021 (mature 2012 2016 [])) table2 h ∙ ap answer (stretches .0)
 
 -- six consecutive years would accept this one
-pub of-2011 : (r : Answer) → Promise (student catalogue2 2021 (mature 2011 2016)) table2 r → r ≡ Refused NoSet
-of-2011 r h = only (student catalogue2 2021 (mature 2011 2016)) table2 h ∙ ap answer (stretches .1)
+pub of-2011 : (r : Answer) → Promise (student catalogue2 2021 (mature 2011 2016 [])) table2 r → r ≡ Refused NoSet
+of-2011 r h = only (student catalogue2 2021 (mature 2011 2016 [])) table2 h ∙ ap answer (stretches .1)
 
 -- the latest of a subject within each stretch would accept this one
 pub of-repeat : (r : Answer) → Promise (student catalogue2 2021 (renewed 2021)) table2 r → r ≡ Refused NoSet

@@ -1,17 +1,16 @@
--- A usable result of a well-formed student has a score, and an aggregate is at most 50000.
-use Prim.Native.Nat.{ℕ, _*_, _≤_}
+-- A usable result of a well-formed student has a score, and is the only one of its subject and year; and an aggregate is at most 50000.
+use Prim.Native.Nat.{ℕ, _*_, _≤_, _<_}
 use native.Mathlib.Omega.{arith}
 use mathlib.Core.Path.{_≡_, refl, sym, ap, _∙_}
 use mathlib.Core.Bool.{true, false, not, true≢false}
-use mathlib.Core.List.{List, [], _∷_, _++_}
+use mathlib.Core.List.{List, [], _∷_}
 use lib.ListN.{length}
-use borrow.Author.Tests.{ltb-true}
+use borrow.Author.Tests.{ltb-true, eq-eqb}
 use Rattle.paper.specs.Limits.{topScore, mostAggregate}
 use Rattle.paper.specs.Lists.{some}
 use Rattle.paper.specs.Words.{_<?_}
-use Rattle.paper.proofs.Booleans.{both-true, first-true}
-use Rattle.paper.proofs.Ruled.{Unbroken, all-unbroken, unbroken-parts, unbroken-turns}
-use Rattle.catalogue.specs.Catalogue.{catalogueRules}
+use Rattle.paper.proofs.Booleans.{both-true, true-both, first-true}
+use Rattle.paper.proofs.Firsts.{some-has, some-not}
 use Rattle.scores.specs.Scores.{Found, scaled, absent, tooHigh}
 use Rattle.seek.specs.Sets.{In, positions, sumOver}
 use Rattle.results.specs.Results.{Student, held, result}
@@ -20,8 +19,9 @@ use Rattle.results.specs.Counting.{usable, usableAt, later, kept}
 use Rattle.results.specs.declared.reading.Result.{Result}
 use Rattle.results.proofs.Scores.{score-most}
 use Rattle.bestset.specs.Admissible.{Admissible}
-use Rattle.bestset.specs.Rules.{isScore, unscored, resultRules, turnRules, inputRules, repeatRule, studentRules}
+use Rattle.bestset.specs.Rules.{isScore, unscored, sameYear, repeated}
 use Rattle.bestset.specs.Promise.{Values, WellFormed, Chosen}
+use Rattle.bestset.proofs.Bridge.{rules-kept, usable-held}
 
 -- the slot of a result holds a score of at most the greatest, and this is what the result counts
 pub record Scored (table : List ℕ) (r : Result) : Type 0 where
@@ -40,24 +40,24 @@ not-unscored table r u e = go (scoreFound table r) refl (sym (first-true (usable
     go tooHigh is k = absurd (true≢false k)
 
 module _ (s : Student) (table : List ℕ) (formed : WellFormed s table) where
-  turns-kept : Unbroken (turnRules s table)
-  turns-kept =
-      let all = all-unbroken (studentRules s table) tt tt formed in
-      let input = unbroken-parts (catalogueRules (s .catalogue)) (inputRules s table ++ (turnRules s table ++ (repeatRule s ∷ []))) all .1 in
-      let turns = unbroken-parts (inputRules s table) (turnRules s table ++ (repeatRule s ∷ [])) input .1 in
-      unbroken-parts (turnRules s table) (repeatRule s ∷ []) turns .0
-
   -- a usable result has a score
   pub usable-scored : (i : ℕ) → usableAt s i ≡ true → Scored table (result s i)
   unfolding usableAt
   usable-scored i u =
       let p = both-true (i <? held s) (usable (result s i)) u in
-      not-unscored table (result s i) (p .1) (unbroken-turns (held s) (resultRules s table) turns-kept i (ltb-true i (held s) (p .0)) .1 .1 .0)
+      not-unscored table (result s i) (p .1) (rules-kept s table formed .2 i (ltb-true i (held s) (p .0)) .1 .1 .0)
 
   -- so has each member of an admissible set: none counts 0 for want of a score
   pub member-scored : (set : ℕ) → Admissible s set → (i : ℕ) → In i set → Scored table (result s i)
   unfolding kept
   member-scored set a i m = usable-scored i (both-true (usableAt s i) (not (some (held s) (later s i))) (a .each i m) .0)
+
+  -- and of one subject and year there is one, however old
+  pub once-a-year : (i j : ℕ) → i < j → usableAt s i ≡ true → usableAt s j ≡ true → result s i .subject ≡ result s j .subject → result s i .year ≡ result s j .year → ⊥
+  unfolding repeated
+  once-a-year i j l u v e f =
+      let again = some-has j (sameYear s j) i l (true-both _ _ (true-both _ _ u (eq-eqb _ _ e)) (eq-eqb _ _ f)) in
+      true≢false (sym (true-both _ _ v again) ∙ some-not (held s) (repeated s) (rules-kept s table formed .3) j (usable-held s j v))
 
 sum-most : (f : ℕ → ℕ) (l : List ℕ) → ((i : ℕ) → f i ≤ topScore) → sumOver f l ≤ topScore * length l
 unfolding sumOver

@@ -1,28 +1,19 @@
--- What the years mean: an admissible set lies within five consecutive years, whichever they are, and no set that does is too far apart; nothing of it depends on the
--- assessment year; and of one subject and year a well-formed student has one usable result, however old.
+-- What the years of a set mean: an admissible set lies within five consecutive years, whichever they are, and no set that does is too far apart; and nothing of it
+-- depends on the assessment year.
 use Prim.Native.Nat.{ℕ, zero, suc, _+_, _≤_, _<_}
 use native.Mathlib.Decide.{decLe, ℕ-discrete}
 use native.Mathlib.Nat.{eq-or-lt-of-le, le-of-suc-le-suc}
 use native.Mathlib.Omega.{arith}
-use mathlib.Core.Path.{_≡_, refl, sym, subst, _∙_}
-use mathlib.Core.Bool.{true, true≢false}
-use mathlib.Core.List.{List, [], _∷_, _++_}
-use borrow.Author.Tests.{eq-eqb}
+use mathlib.Core.Path.{_≡_, refl, sym, subst}
+use mathlib.Core.List.{List}
 use mathlib.Core.Logic.{_⊎_, inl, inr, ⊎-elim}
 use Rattle.paper.specs.Limits.{mostResults, mostSpan}
-use Rattle.paper.proofs.Booleans.{true-both}
-use Rattle.paper.proofs.Firsts.{some-has, some-not}
-use Rattle.paper.proofs.Ruled.{all-unbroken, unbroken-parts}
-use Rattle.catalogue.specs.Catalogue.{catalogueRules}
 use Rattle.seek.specs.Sets.{bit, In}
 use Rattle.seek.proofs.Digits.{in-lt}
-use Rattle.results.specs.Results.{Student, student, held, result}
+use Rattle.results.specs.Results.{Student, student, result}
 use Rattle.results.specs.Counting.{usableAt, showsEnglish, kept}
 use Rattle.bestset.specs.Admissible.{FiveYears, Admissible}
-use Rattle.bestset.specs.Rules.{sameYear, repeated, inputRules, turnRules, repeatRule, studentRules}
-use Rattle.bestset.specs.Promise.{WellFormed}
 use Rattle.bestset.specs.Computed.{admissible}
-use Rattle.bestset.proofs.Bridge.{usable-held}
 
 module _ (s : Student) (set : ℕ) where
   -- every member is of one of the five years from y on
@@ -84,15 +75,3 @@ module _ (catalogue results : List ℕ) (y z : ℕ) where
   pub admissible-any-year : (set : ℕ) → admissible (student catalogue y results) set ≡ admissible (student catalogue z results) set
   unfolding admissible kept usableAt
   admissible-any-year set = refl
-
--- of one subject and year a well-formed student has one usable result
-pub once-a-year : (s : Student) (table : List ℕ) → WellFormed s table → (i j : ℕ) → i < j → usableAt s i ≡ true → usableAt s j ≡ true
-    → result s i .subject ≡ result s j .subject → result s i .year ≡ result s j .year → ⊥
-unfolding repeated
-once-a-year s table w i j l u v e f =
-    let all = all-unbroken (studentRules s table) tt tt w in
-    let input = unbroken-parts (catalogueRules (s .catalogue)) (inputRules s table ++ (turnRules s table ++ (repeatRule s ∷ []))) all .1 in
-    let turns = unbroken-parts (inputRules s table) (turnRules s table ++ (repeatRule s ∷ [])) input .1 in
-    let none = unbroken-parts (turnRules s table) (repeatRule s ∷ []) turns .1 .0 in
-    let again = some-has j (sameYear s j) i l (true-both _ _ (true-both _ _ u (eq-eqb _ _ e)) (eq-eqb _ _ f)) in
-    true≢false (sym (true-both _ _ v again) ∙ some-not (held s) (repeated s) none j (usable-held s j v))

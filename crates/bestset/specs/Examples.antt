@@ -99,13 +99,13 @@ three more = result 3 letterB 50 (result 4 letterB 50 (result 5 letterB 50 more)
 abbrev pub english10 : List ℕ
 english10 = result 0 letterC 10 (result 1 letterB 50 (three (result 8 letterB 50 [])))
 
--- one who passed everything between two years: the first in English, the last in Geography, the others 2013 to 2015
-abbrev pub mature : ℕ → ℕ → List ℕ
-mature first last = dated 0 letterC 50 first (dated 1 letterB 50 2013 (dated 3 letterB 50 2014 (dated 4 letterB 50 2015 (dated 5 letterB 50 last []))))
+-- one who passed everything between two years: the first in English, the last in Geography, the others 2013 to 2015; and more
+abbrev pub mature : ℕ → ℕ → List ℕ → List ℕ
+mature first last more = dated 0 letterC 50 first (dated 1 letterB 50 2013 (dated 3 letterB 50 2014 (dated 4 letterB 50 2015 (dated 5 letterB 50 last more))))
 
--- the same of 2013 to 2016, with English of 2012 and again, better, in another year
+-- of 2012 to 2016, with English again, better, in another year
 abbrev pub renewed : ℕ → List ℕ
-renewed year = dated 0 letterC 50 2012 (dated 1 letterB 50 2013 (dated 3 letterB 50 2014 (dated 4 letterB 50 2015 (dated 5 letterB 50 2016 (dated 0 letterB 90 year [])))))
+renewed year = mature 2012 2016 (dated 0 letterB 90 year [])
 
 -- five Generals of 2021 at 50, and English of 1990 with a letter
 abbrev pub longAgo : ℕ → List ℕ

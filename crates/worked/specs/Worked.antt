@@ -14,10 +14,10 @@ six = student catalogue2 2021 (result 0 letterC 50 (result 1 letterB 50 (three (
 
 -- in 2021: one who passed everything from 2012 to 2016, or from 2011; with English of 1990; with English of 2012 and again in 2021
 abbrev pub from2012 : Student
-from2012 = student catalogue2 2021 (mature 2012 2016)
+from2012 = student catalogue2 2021 (mature 2012 2016 [])
 
 abbrev pub from2011 : Student
-from2011 = student catalogue2 2021 (mature 2011 2016)
+from2011 = student catalogue2 2021 (mature 2011 2016 [])
 
 abbrev pub english1990 : Student
 english1990 = student catalogue2 2021 (longAgo letterC)
