@@ -198,15 +198,31 @@ struct shtegomir_placed {
 struct shtegomir_placed shtegomir_place_direct(const uint32_t *aggregates, size_t aggregates_len, const uint32_t *table,
                                                size_t table_len, uint32_t population, uint16_t *bands, size_t bands_len);
 
-/* The same for up to 100000 students, by tally. Where both calls accept they agree.
+/* ---- Ranks and bands in one call ---- */
+
+/* Ranks and places up to 100000 students over one list of aggregates, by tally: the ranks and percentiles that shtegomir_rank gives for
+ * it, and the placing as by direct count: of all that keep order, ties and places the one that gives every student at once the best
+ * band. Where the calls accept they agree. All four buffers are filled, whatever they held before, or none.
  *
- *   counts      lent to be written, 50001: in entry t the number of students with aggregate t; whatever it held before
+ *   aggregates   in hundredths, at most 50000; no student at all is fine too
+ *   table        2000 participation entries in millionths, each at most 1000000; they need not rise
+ *   population   Y, 1 to 1000000
+ *   ranks        lent to be written, as many as there are students: the number of students whose aggregate is at most one's own
+ *   percentiles  lent to be written, as many: 100 times rank over the number of students, in thousandths, nearest, halves up
+ *   bands        lent to be written, as many: 0 to 1999, band k being ATAR 0.05k
+ *   counts       lent to be written, 50001: in entry t the number of students with aggregate t
  *
- * Refused as by direct count, but 2 over 100000 students: 100000; and 11 also if counts are not 50001.
+ * Refused, in this order, at a place:
+ *    2  over 100000 students: 100000
+ *   11  not 2000 entries, or ranks, percentiles or bands not as many as aggregates, or counts not 50001: 0
+ *    9  population zero or over 1000000: 0
+ *   13  an entry over 1000000: its index
+ *   12  an aggregate over 50000: its index
  */
-struct shtegomir_placed shtegomir_place_tally(const uint32_t *aggregates, size_t aggregates_len, const uint32_t *table,
-                                              size_t table_len, uint32_t population, uint16_t *bands, size_t bands_len,
-                                              uint32_t *counts, size_t counts_len);
+struct shtegomir_placed shtegomir_rank_and_place(const uint32_t *aggregates, size_t aggregates_len, const uint32_t *table,
+                                                 size_t table_len, uint32_t population, uint32_t *ranks, size_t ranks_len,
+                                                 uint32_t *percentiles, size_t percentiles_len, uint16_t *bands, size_t bands_len,
+                                                 uint32_t *counts, size_t counts_len);
 
 /* ---- The listing of a cohort file ---- */
 

@@ -11,7 +11,7 @@
 
 #include "shtegomir.h"
 
-enum { BUFFERS = 4, PATTERN = 0xa5 };
+enum { BUFFERS = 6, PATTERN = 0xa5 };
 enum { GUARD = 1 << 16, ROOM = 1 << 19 }; /* whole pages, of any size that pages have */
 
 /* What must come out. Accepted: the numbers that are returned, and then what was written, as in render(). */
@@ -241,10 +241,11 @@ static struct answer place_direct(const struct lent *l)
     return (struct answer){a.refusal, a.place, {a.remainder, 0}};
 }
 
-static struct answer place_tally(const struct lent *l)
+static struct answer rank_and_place(const struct lent *l)
 {
-    struct shtegomir_placed a = shtegomir_place_tally(l[0].at, l[0].length, l[1].at, l[1].length, POPULATION, l[2].at,
-                                                      l[2].length, l[3].at, l[3].length);
+    struct shtegomir_placed a =
+        shtegomir_rank_and_place(l[0].at, l[0].length, l[1].at, l[1].length, POPULATION, l[2].at, l[2].length, l[3].at, l[3].length,
+                                 l[4].at, l[4].length, l[5].at, l[5].length);
     return (struct answer){a.refusal, a.place, {a.remainder, 0}};
 }
 
@@ -341,10 +342,11 @@ static const struct entry direct_entry = {
     {{"aggregates", aggregates, 4, 3, 1, ALL_LENGTH}, {"table", entries, 4, 2000, 1, ALL_LENGTH},
      {"bands", NULL, 2, 3, 1, ALL_LENGTH}}};
 
-static const struct entry tally_entry = {
-    "place tally", place_tally, 1, {0, 0, " 0 1998 1998 1997 0 to 0"},
+static const struct entry both_entry = {
+    "rank and place", rank_and_place, 1, {0, 0, " 0 3 3 1 100000 100000 33333 1998 1998 1997 0 to 0"},
     {{"aggregates", aggregates, 4, 3, 1, ALL_LENGTH}, {"table", entries, 4, 2000, 1, ALL_LENGTH},
-     {"bands", NULL, 2, 3, 1, ALL_LENGTH}, {"counts", NULL, 4, 50001, 1, ALL_LENGTH}}};
+     {"ranks", NULL, 4, 3, 1, ALL_LENGTH}, {"percentiles", NULL, 4, 3, 1, ALL_LENGTH}, {"bands", NULL, 2, 3, 1, ALL_LENGTH},
+     {"counts", NULL, 4, 50001, 1, ALL_LENGTH}}};
 
 /* Any number of bytes is a file: what is wrong with it is told in the text. */
 static const struct entry report_entry = {
@@ -356,7 +358,7 @@ static const struct entry report_entry = {
      {"text", NULL, 1, 65536, 1, ALL_LENGTH}}};
 
 static const struct entry *const every[] = {&best_set_entry, &scores_entry, &participation_entry, &rank_entry,
-                                           &direct_entry, &tally_entry, &report_entry};
+                                           &direct_entry, &both_entry, &report_entry};
 
 /* Other lengths of several buffers at once. */
 static const struct {
@@ -387,11 +389,21 @@ static const struct {
     {&direct_entry, "512 students", {512, 2000, 512}, {0, 0, " 0 1998 to 1488"}},
     {&direct_entry, "513 students", {513, 2000, 513}, {2, 512, NULL}},
     {&direct_entry, "513 students, and no buffers", {513, 0, 0}, {2, 512, NULL}},
-    {&tally_entry, "two students", {2, 2000, 2, 50001}, {0, 0, " 0 1998 1998 0 to 0"}},
-    {&tally_entry, "nobody", {0, 2000, 0, 50001}, {0, 0, " 0 0 to 0"}},
-    {&tally_entry, "100000 students", {100000, 2000, 100000, 50001}, {0, 0, " 99997 1998 to 0 99997 to 0"}},
-    {&tally_entry, "100001 students", {100001, 2000, 100001, 50001}, {2, 100000, NULL}},
-    {&tally_entry, "100001 students, and no buffers", {100001, 0, 0, 0}, {2, 100000, NULL}},
+    {&both_entry, "two students", {2, 2000, 2, 2, 2, 50001}, {0, 0, " 0 2 2 100000 100000 1998 1998 0 to 0"}},
+    {&both_entry, "nobody", {0, 2000, 0, 0, 0, 50001}, {0, 0, " 0 0 to 0"}},
+    {&both_entry, "nobody, and no table", {0, 0, 0, 0, 0, 50001}, LENGTH},
+    {&both_entry, "nobody, and a rank", {0, 2000, 1, 0, 0, 50001}, LENGTH},
+    {&both_entry, "nobody, and a percentile", {0, 2000, 0, 1, 0, 50001}, LENGTH},
+    {&both_entry, "nobody, and a band", {0, 2000, 0, 0, 1, 50001}, LENGTH},
+    {&both_entry, "nobody, and no counts", {0, 2000, 0, 0, 0, 0}, LENGTH},
+    {&both_entry, "nothing at all", {0, 0, 0, 0, 0, 0}, LENGTH},
+    {&both_entry, "100000 students", {100000, 2000, 100000, 100000, 100000, 50001},
+     {0, 0, " 99997 100000 to 99997 100000 to 99997 1998 to 0 99997 to 0"}},
+    {&both_entry, "100000 students, a rank fewer", {100000, 2000, 99999, 100000, 100000, 50001}, LENGTH},
+    {&both_entry, "100000 students, a percentile fewer", {100000, 2000, 100000, 99999, 100000, 50001}, LENGTH},
+    {&both_entry, "100000 students, a band fewer", {100000, 2000, 100000, 100000, 99999, 50001}, LENGTH},
+    {&both_entry, "100001 students", {100001, 2000, 100001, 100001, 100001, 50001}, {2, 100000, NULL}},
+    {&both_entry, "100001 students, and no buffers", {100001, 0, 0, 0, 0, 0}, {2, 100000, NULL}},
     {&report_entry, "65536 bytes", {65536, 65536}, {0, 0, " 15 refused 1 4346\n"}},
     {&report_entry, "65537 bytes", {65537, 65536}, {0, 0, " 16 refused 2 65536\n"}},
     {&report_entry, "65537 bytes, and no text", {65537, 0}, LENGTH},

@@ -1,7 +1,8 @@
 /* Holds each entry of the library to the second implementation, on inputs made from a seed: long and short, valid and damaged.
  * Answers are compared field by field, lent buffers whole and past their ends, and a refused call must leave them as they were.
- * Each refusal that an entry can give must be met, and answers that the span of years changes, in students whose results lie over
- * many years. The first difference ends the run, with its input. tests/compare builds and runs it.
+ * Ranks and bands in one call are held to the calls apart, too. Each refusal that an entry can give must be met; answers that the
+ * span of years changes, in students whose results lie over many years; and of ranks and bands in one call each length that alone
+ * is wrong, and cohorts of each kind. The first difference ends the run, with its input. tests/compare builds and runs it.
  *
  *   compare SEED
  */
@@ -15,7 +16,7 @@
 #include "shtegomir.h"
 
 /* How many inputs of each entry for one seed: such that each refusal is met, the rarest about a dozen times. */
-enum { SCORES = 5000, BEST_SETS = 50000, CURVES = 1500, RANKINGS = 5000, DIRECT = 5000, TALLIES = 500, REPORTS = 1000 };
+enum { SCORES = 5000, BEST_SETS = 50000, CURVES = 1500, RANKINGS = 5000, DIRECT = 5000, IN_ONE_CALL = 500, REPORTS = 1000 };
 
 enum { BANDS = 2000, COUNTS = 50001, MOST = 100000, MILLION = 1000000, NUMBERS = REFUSALS };
 
@@ -566,10 +567,26 @@ static void compare_ranks(struct entry *e)
 
 /* ---- Bands ---- */
 
+/* The lengths besides that of the aggregates; direct count takes those of the table and the bands. */
+enum { OF_TABLE, OF_RANKS, OF_PERCENTILES, OF_BANDS, OF_COUNTS, LENGTHS };
+
 struct cohort {
-    size_t count, table_len, bands_len, counts_len;
+    size_t count, length[LENGTHS];
     uint32_t aggregates[MOST + SPARE], table[BANDS + SPARE], population;
 };
+
+static size_t asked(const struct cohort *c, int which)
+{
+    return which == OF_TABLE ? BANDS : which == OF_COUNTS ? COUNTS : c->count;
+}
+
+/* So many students, and every length as asked. */
+static void set_count(struct cohort *c, size_t count)
+{
+    c->count = count;
+    for (int which = 0; which < LENGTHS; which++)
+        c->length[which] = asked(c, which);
+}
 
 /* Y·F(k) is a multiple of 2000000000 at every band, so C is often equal to the places; a little more or less at one band. */
 static void make_equal_places(struct cohort *c)
@@ -610,9 +627,7 @@ static void make_aggregates(struct cohort *c)
 
 static void make_cohort(struct cohort *c, size_t count)
 {
-    c->count = c->bands_len = count;
-    c->table_len = BANDS;
-    c->counts_len = COUNTS;
+    set_count(c, count);
     if (chance(50))
         make_equal_places(c);
     else
@@ -620,26 +635,39 @@ static void make_cohort(struct cohort *c, size_t count)
     make_aggregates(c);
 }
 
-static void damage_cohort(struct cohort *c, size_t limit)
+static void damage_length(struct cohort *c, int which)
 {
-    switch (below(10)) {
-    case 0: c->count = c->bands_len = limit + from(1, 2); break;
-    case 1: c->table_len = another(c->table_len); break;
-    case 2: c->bands_len = another(c->bands_len); break;
-    case 3: c->counts_len = another(c->counts_len); break;
-    case 4:
-    case 5: c->population = ONE_OF(0, MILLION, MILLION + 1, UINT32_MAX); break;
-    case 6:
-    case 7: c->table[below(BANDS)] = ONE_OF(MILLION, MILLION + 1, UINT32_MAX); break;
+    c->length[which] = another(c->length[which]);
+}
+
+/* Damage to what one rule is about, the rules in their order: 2, 11, 9, 13, 12. Some of it comes up to a limit and not past it. */
+static void damage_for(struct cohort *c, unsigned rule, size_t limit)
+{
+    switch (rule) {
+    case 0: set_count(c, limit + from(1, 2)); break;
+    case 1: damage_length(c, (int)below(LENGTHS)); break;
+    case 2: c->population = ONE_OF(0, MILLION, MILLION + 1, UINT32_MAX); break;
+    case 3: c->table[below(BANDS)] = ONE_OF(MILLION, MILLION + 1, UINT32_MAX); break;
     default: c->aggregates[below(c->count + (c->count == 0))] = ONE_OF(50000, 50001, UINT32_MAX); break;
     }
 }
 
+static void damage_cohort(struct cohort *c, size_t limit)
+{
+    for (unsigned times = chance(40) ? from(1, 3) : 0; times > 0; times--)
+        damage_for(c, ONE_OF(0, 1, 1, 1, 2, 2, 3, 3, 4, 4), limit);
+}
+
+static const char *const length_names[LENGTHS] = {"table", "ranks", "percentiles", "bands", "counts"};
+
 static void print_cohort(const struct cohort *c)
 {
-    printf("population %lu, bands of %zu, counts of %zu\n", (unsigned long)c->population, c->bands_len, c->counts_len);
+    printf("population %lu", (unsigned long)c->population);
+    for (int which = 0; which < LENGTHS; which++)
+        printf(", %s of %zu", length_names[which], c->length[which]);
+    printf("\n");
     print_numbers("aggregates", c->aggregates, c->count);
-    print_numbers("table", c->table, c->table_len);
+    print_numbers("table", c->table, c->length[OF_TABLE]);
 }
 
 static void same_placed(struct entry *e, struct shtegomir_placed a, struct second_placed b)
@@ -648,42 +676,192 @@ static void same_placed(struct entry *e, struct shtegomir_placed a, struct secon
     same("remainder", a.remainder, b.remainder);
 }
 
+/* What is lent to be written. */
+struct written {
+    uint32_t ranks[MOST + SPARE], percentiles[MOST + SPARE], counts[COUNTS + SPARE];
+    uint16_t bands[MOST + SPARE];
+};
+
 static struct cohort cohort;
-static uint16_t bands[MOST + SPARE], other_bands[MOST + SPARE];
-static uint32_t counts[COUNTS + SPARE], other_counts[COUNTS + SPARE];
+static struct written ours, theirs, apart; /* by the library, by the second implementation, by the library's calls apart */
 
 static void compare_direct(struct entry *e)
 {
     struct cohort *c = &cohort;
     make_cohort(c, chance(90) ? below(40) : chance(80) ? below(200) : from(500, 512));
-    for (unsigned times = chance(40) ? from(1, 3) : 0; times > 0; times--)
-        damage_cohort(c, 512);
-    size_t size = c->bands_len * sizeof *bands;
-    fill(bands, other_bands, size);
+    damage_cohort(c, 512);
+    size_t count = c->length[OF_BANDS], size = count * sizeof *ours.bands;
+    fill(ours.bands, theirs.bands, size);
     struct shtegomir_placed a =
-        shtegomir_place_direct(c->aggregates, c->count, c->table, c->table_len, c->population, bands, c->bands_len);
-    same_placed(e, a, second_place_direct(c->aggregates, c->count, c->table, c->table_len, c->population, other_bands, c->bands_len));
-    same_buffer("bands", a.refusal, bands, other_bands, size);
+        shtegomir_place_direct(c->aggregates, c->count, c->table, c->length[OF_TABLE], c->population, ours.bands, count);
+    same_placed(e, a,
+                second_place_direct(c->aggregates, c->count, c->table, c->length[OF_TABLE], c->population, theirs.bands, count));
+    same_buffer("bands", a.refusal, ours.bands, theirs.bands, size);
     if (differs)
         print_cohort(c);
 }
 
-static void compare_tally(struct entry *e)
+/* ---- Ranks and bands in one call ---- */
+
+/* A number divisible by 64 makes percentiles with halves. */
+static size_t some_students(void)
+{
+    if (chance(80))
+        return chance(30) ? 64 * below(10) : below(600);
+    return chance(90) ? below(5000) : chance(50) ? MOST : from(20000, MOST);
+}
+
+static void tie_all(struct cohort *c)
+{
+    for (size_t i = 0; i < c->count; i++)
+        c->aggregates[i] = c->aggregates[0];
+}
+
+static void spread(struct cohort *c)
+{
+    for (size_t i = 0; i < c->count; i++)
+        c->aggregates[i] = below(50001);
+}
+
+/* Of a hundred cohorts each length is damaged alone in one, each rule with the next in two, and a length for nobody in one; one is of
+ * nobody, one all tied, one of as many students as there may be, with aggregates by chance. The others are any, some of them damaged. */
+static void make_any_cohort(struct cohort *c, unsigned turn)
+{
+    switch (turn) {
+    case 96: make_cohort(c, 0); damage_length(c, (int)below(LENGTHS)); return;
+    case 97: make_cohort(c, 0); return;
+    case 98: make_cohort(c, chance(80) ? from(2, 600) : MOST); tie_all(c); return;
+    case 99: make_cohort(c, MOST); spread(c); return;
+    default: make_cohort(c, some_students()); break;
+    }
+    if (turn % 20 == 0)
+        damage_length(c, (int)turn / 20);
+    else if (turn % 10 == 5) {
+        damage_for(c, turn / 20, MOST);
+        damage_for(c, turn / 20 + 1, MOST);
+    } else
+        damage_cohort(c, MOST);
+}
+
+/* What was met besides refusals: refused 11 for one length alone, and accepted cohorts. */
+enum { FULL, OVER_BANDS, ALL_TIED, NOBODY, HALVES, NOT_ALL_PLACED, BY_DIRECT_COUNT, OF_COHORTS };
+
+static unsigned long met_lengths[LENGTHS], met_cohorts[OF_COHORTS];
+
+static struct second_placed second_of(const struct cohort *c)
+{
+    const size_t *length = c->length;
+    return second_rank_and_place(c->aggregates, c->count, c->table, length[OF_TABLE], c->population, theirs.ranks, length[OF_RANKS],
+                                 theirs.percentiles, length[OF_PERCENTILES], theirs.bands, length[OF_BANDS], theirs.counts,
+                                 length[OF_COUNTS]);
+}
+
+/* Of a cohort refused 11: whether one length is to blame for it, and with that one mended it is accepted. */
+static void note_length(struct cohort *c)
+{
+    int blamed = 0, wrong = 0;
+    for (int which = 0; which < LENGTHS; which++)
+        if (c->length[which] != asked(c, which)) {
+            blamed = which;
+            wrong++;
+        }
+    size_t damaged = c->length[blamed];
+    c->length[blamed] = asked(c, blamed);
+    met_lengths[blamed] += wrong == 1 && second_of(c).refusal == 0;
+    c->length[blamed] = damaged;
+}
+
+/* Whether 100 times rank/N has a half of a thousandth. */
+static int is_half(uint32_t rank, size_t count)
+{
+    return 2 * (100000 * (uint64_t)rank % count) == count;
+}
+
+/* Of an accepted cohort. */
+static void note_cohort(const struct cohort *c, uint32_t remainder)
+{
+    size_t different = 0, halves = 0;
+    for (size_t t = 0; t < COUNTS; t++)
+        different += theirs.counts[t] != 0;
+    for (size_t i = 0; i < c->count; i++)
+        halves += is_half(theirs.ranks[i], c->count);
+    met_cohorts[FULL] += c->count == MOST;
+    met_cohorts[OVER_BANDS] += different > BANDS;
+    met_cohorts[ALL_TIED] += c->count > 1 && different == 1;
+    met_cohorts[NOBODY] += c->count == 0;
+    met_cohorts[HALVES] += halves != 0;
+    met_cohorts[NOT_ALL_PLACED] += remainder != 0;
+    met_cohorts[BY_DIRECT_COUNT] += c->count <= 512;
+}
+
+static int all_cohorts(void)
+{
+    static const char *const names[OF_COHORTS] = {"of 100000 students", "of over 2000 different aggregates", "all tied", "of nobody",
+                                                  "with a percentile of a half", "with a remainder", "held to direct count"};
+    int all = 1;
+    printf("ranks and bands, refused 11 for one length alone:");
+    for (int which = 0; which < LENGTHS; which++) {
+        printf("%s %lu %s", which == 0 ? "" : ",", met_lengths[which], length_names[which]);
+        all &= met_lengths[which] != 0;
+    }
+    printf("\nranks and bands, accepted cohorts:");
+    for (int i = 0; i < OF_COHORTS; i++) {
+        printf("%s %lu %s", i == 0 ? "" : ",", met_cohorts[i], names[i]);
+        all &= met_cohorts[i] != 0;
+    }
+    printf(all ? "\n" : "; not all that there are\n");
+    return all;
+}
+
+static void unlike_apart(const char *what)
+{
+    differs = 1;
+    printf("%s: not as by the library's calls apart\n", what);
+}
+
+/* An accepted cohort by the calls apart: ranks, and bands by direct count, which takes up to 512 students. */
+static void compare_apart(const struct cohort *c, uint32_t remainder)
+{
+    size_t size = c->count * sizeof *ours.ranks;
+    struct shtegomir_ranked r = shtegomir_rank(c->aggregates, c->count, apart.ranks, c->count, apart.percentiles, c->count);
+    if (r.refusal != 0 || memcmp(ours.ranks, apart.ranks, size) != 0)
+        unlike_apart("ranks");
+    if (memcmp(ours.percentiles, apart.percentiles, size) != 0)
+        unlike_apart("percentiles");
+    if (c->count > 512)
+        return;
+    struct shtegomir_placed p =
+        shtegomir_place_direct(c->aggregates, c->count, c->table, BANDS, c->population, apart.bands, c->count);
+    if (p.refusal != 0 || p.remainder != remainder)
+        unlike_apart("remainder");
+    if (memcmp(ours.bands, apart.bands, c->count * sizeof *ours.bands) != 0)
+        unlike_apart("bands");
+}
+
+static void compare_in_one_call(struct entry *e)
 {
     struct cohort *c = &cohort;
-    make_cohort(c, chance(80) ? below(600) : chance(90) ? below(5000) : chance(50) ? MOST : from(20000, MOST));
-    for (unsigned times = chance(40) ? from(1, 3) : 0; times > 0; times--)
-        damage_cohort(c, MOST);
-    size_t size = c->bands_len * sizeof *bands, counts_size = c->counts_len * sizeof *counts;
-    fill(bands, other_bands, size);
-    fill(counts, other_counts, counts_size);
-    struct shtegomir_placed a = shtegomir_place_tally(c->aggregates, c->count, c->table, c->table_len, c->population, bands,
-                                                      c->bands_len, counts, c->counts_len);
-    same_placed(e, a,
-                second_place_tally(c->aggregates, c->count, c->table, c->table_len, c->population, other_bands, c->bands_len,
-                                   other_counts, c->counts_len));
-    same_buffer("bands", a.refusal, bands, other_bands, size);
-    same_buffer("counts", a.refusal, counts, other_counts, counts_size);
+    make_any_cohort(c, (unsigned)(e->inputs % 100));
+    size_t *length = c->length, ranks = length[OF_RANKS] * sizeof *ours.ranks, counts = length[OF_COUNTS] * sizeof *ours.counts;
+    size_t percentiles = length[OF_PERCENTILES] * sizeof *ours.percentiles, bands = length[OF_BANDS] * sizeof *ours.bands;
+    fill(ours.ranks, theirs.ranks, ranks);
+    fill(ours.percentiles, theirs.percentiles, percentiles);
+    fill(ours.bands, theirs.bands, bands);
+    fill(ours.counts, theirs.counts, counts);
+    struct shtegomir_placed a = shtegomir_rank_and_place(
+        c->aggregates, c->count, c->table, length[OF_TABLE], c->population, ours.ranks, length[OF_RANKS], ours.percentiles,
+        length[OF_PERCENTILES], ours.bands, length[OF_BANDS], ours.counts, length[OF_COUNTS]);
+    struct second_placed b = second_of(c);
+    same_placed(e, a, b);
+    same_buffer("ranks", a.refusal, ours.ranks, theirs.ranks, ranks);
+    same_buffer("percentiles", a.refusal, ours.percentiles, theirs.percentiles, percentiles);
+    same_buffer("bands", a.refusal, ours.bands, theirs.bands, bands);
+    same_buffer("counts", a.refusal, ours.counts, theirs.counts, counts);
+    if (b.refusal == 0) {
+        note_cohort(c, b.remainder);
+        compare_apart(c, a.remainder);
+    } else if (b.refusal == 11)
+        note_length(c);
     if (differs)
         print_cohort(c);
 }
@@ -750,7 +928,7 @@ int main(int arguments, char **argument)
                run("curve", GIVES(0, 9, 10, 11), compare_curve, CURVES) &&
                run("ranks", GIVES(0, 2, 11), compare_ranks, RANKINGS) &&
                run("direct bands", GIVES(0, 2, 9, 11, 12, 13), compare_direct, DIRECT) &&
-               run("bands by tally", GIVES(0, 2, 9, 11, 12, 13), compare_tally, TALLIES) &&
+               run("ranks and bands", GIVES(0, 2, 9, 11, 12, 13), compare_in_one_call, IN_ONE_CALL) && all_cohorts() &&
                run("report", GIVES(0, 11), compare_report, REPORTS) && all_shown();
     printf(fine ? "compare: no difference\n" : "compare: failed, seed %llu\n", (unsigned long long)seed);
     return !fine;

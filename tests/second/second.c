@@ -4,6 +4,7 @@
 #include <inttypes.h>
 #include <stdarg.h>
 #include <stdio.h>
+#include <stdlib.h>
 #include <string.h>
 
 enum {
@@ -434,6 +435,12 @@ struct second_curve second_participation(const uint32_t *figures, size_t figures
 
 /* ---- Ranks ---- */
 
+/* 100 times rank/N, in thousandths. */
+static uint32_t percentile_of(uint32_t rank, size_t count)
+{
+    return (uint32_t)nearest(100000 * (uint64_t)rank, count);
+}
+
 struct second_ranked second_rank(const uint32_t *values, size_t values_len, uint32_t *ranks, size_t ranks_len,
                                  uint32_t *percentiles, size_t percentiles_len)
 {
@@ -447,7 +454,7 @@ struct second_ranked second_rank(const uint32_t *values, size_t values_len, uint
         for (size_t j = 0; j < values_len; j++)
             rank += values[j] <= values[i];
         ranks[i] = rank;
-        percentiles[i] = (uint32_t)nearest(100000 * (uint64_t)rank, values_len);
+        percentiles[i] = percentile_of(rank, values_len);
     }
     return done;
 }
@@ -508,34 +515,93 @@ struct second_placed second_place_direct(const uint32_t *aggregates, size_t aggr
     return placed;
 }
 
-struct second_placed second_place_tally(const uint32_t *aggregates, size_t aggregates_len, const uint32_t *table, size_t table_len,
-                                        uint32_t population, uint16_t *bands, size_t bands_len, uint32_t *counts,
-                                        size_t counts_len)
+/* ---- Ranks and bands in one call ---- */
+
+struct standing {
+    uint32_t aggregate, student;
+};
+
+static int by_aggregate(const void *a, const void *b)
 {
+    uint32_t x = ((const struct standing *)a)->aggregate, y = ((const struct standing *)b)->aggregate;
+    return (x > y) - (x < y);
+}
+
+/* The students in order of their aggregates, the lowest first, so that those tied stand side by side. */
+static void put_in_order(struct standing *order, const uint32_t *aggregates, size_t count)
+{
+    for (size_t i = 0; i < count; i++) {
+        order[i].aggregate = aggregates[i];
+        order[i].student = (uint32_t)i;
+    }
+    qsort(order, count, sizeof *order, by_aggregate);
+}
+
+/* Where those end who are tied with the one at `first`. */
+static size_t end_of_tie(const struct standing *order, size_t count, size_t first)
+{
+    size_t end = first;
+    while (end < count && order[end].aggregate == order[first].aggregate)
+        end++;
+    return end;
+}
+
+/* F(k), the sum of table entries k to 1999, for each band. */
+static void sum_table(uint64_t *f, const uint32_t *table)
+{
+    f[BANDS - 1] = table[BANDS - 1];
+    for (size_t k = BANDS - 1; k > 0; k--)
+        f[k - 1] = f[k] + table[k - 1];
+}
+
+/* The same band as band_of gives, by halves: F never rises with k, so C fits the bands up to the highest that it fits, and no other. */
+static int band_by_halves(uint64_t c, const uint64_t *f, uint64_t y)
+{
+    int fits = -1, above = BANDS;
+    while (above - fits > 1) {
+        int middle = (fits + above) / 2;
+        if (2000000000 * c <= y * f[middle])
+            fits = middle;
+        else
+            above = middle;
+    }
+    return fits;
+}
+
+struct second_placed second_rank_and_place(const uint32_t *aggregates, size_t aggregates_len, const uint32_t *table,
+                                           size_t table_len, uint32_t population, uint32_t *ranks, size_t ranks_len,
+                                           uint32_t *percentiles, size_t percentiles_len, uint16_t *bands, size_t bands_len,
+                                           uint32_t *counts, size_t counts_len)
+{
+    static struct standing order[TALLIED];
     struct second_placed placed = {0, 0, 0};
-    uint16_t band_for[AGGREGATES] = {0}; /* for each aggregate that someone has */
-    if (aggregates_len > TALLIED)
+    uint64_t f[BANDS];
+    size_t n = aggregates_len;
+    if (n > TALLIED)
         return no_place(refused(2, TALLIED));
-    if (table_len != BANDS || bands_len != aggregates_len || counts_len != AGGREGATES)
+    if (table_len != BANDS || ranks_len != n || percentiles_len != n || bands_len != n || counts_len != AGGREGATES)
         return no_place(refused(11, 0));
-    struct refusal r = judge_bands(aggregates, aggregates_len, table, population);
+    struct refusal r = judge_bands(aggregates, n, table, population);
     if (r.number != 0)
         return no_place(r);
+    put_in_order(order, aggregates, n);
+    sum_table(f, table);
     for (size_t t = 0; t < AGGREGATES; t++)
         counts[t] = 0;
-    for (size_t i = 0; i < aggregates_len; i++)
-        counts[aggregates[i]]++;
-    uint64_t c = 0; /* the number with an aggregate of t or more */
-    for (size_t t = AGGREGATES; t-- > 0;) {
-        c += counts[t];
-        if (counts[t] == 0)
-            continue;
-        int band = band_of(c, table, population);
-        band_for[t] = (uint16_t)(band < 0 ? 0 : band);
-        placed.remainder += band < 0 ? counts[t] : 0;
+    for (size_t first = 0, end; first < n; first = end) {
+        end = end_of_tie(order, n, first);
+        /* those before `end` have at most their aggregate, those from `first` on at least theirs */
+        uint32_t rank = (uint32_t)end, tied = (uint32_t)(end - first);
+        int band = band_by_halves(n - first, f, population);
+        for (size_t i = first; i < end; i++) {
+            size_t student = order[i].student;
+            ranks[student] = rank;
+            percentiles[student] = percentile_of(rank, n);
+            bands[student] = (uint16_t)(band < 0 ? 0 : band);
+        }
+        counts[order[first].aggregate] = tied;
+        placed.remainder += band < 0 ? tied : 0;
     }
-    for (size_t i = 0; i < aggregates_len; i++)
-        bands[i] = band_for[aggregates[i]];
     return placed;
 }
 

@@ -58,10 +58,12 @@ struct second_ranked second_rank(const uint32_t *values, size_t values_len, uint
 struct second_placed second_place_direct(const uint32_t *aggregates, size_t aggregates_len, const uint32_t *table, size_t table_len,
                                          uint32_t population, uint16_t *bands, size_t bands_len);
 
-/* The same for up to 100000, with a tally of 50001 counts: entry t is left with the number of students with aggregate t. */
-struct second_placed second_place_tally(const uint32_t *aggregates, size_t aggregates_len, const uint32_t *table, size_t table_len,
-                                        uint32_t population, uint16_t *bands, size_t bands_len, uint32_t *counts,
-                                        size_t counts_len);
+/* A rank, a percentile and a band for each of up to 100000 students, and a tally of 50001 counts: entry t is left with the number of
+ * students with aggregate t. All are read off the students in order of their aggregates. Refused: 2, 11, 9, 13, 12. */
+struct second_placed second_rank_and_place(const uint32_t *aggregates, size_t aggregates_len, const uint32_t *table,
+                                           size_t table_len, uint32_t population, uint32_t *ranks, size_t ranks_len,
+                                           uint32_t *percentiles, size_t percentiles_len, uint16_t *bands, size_t bands_len,
+                                           uint32_t *counts, size_t counts_len);
 
 /* The listing of a cohort file, in front of a text of 65536 bytes, whose rest stays as it was. Refused: 11 at 0, a text of another
  * length. A refused file is an accepted call: its text is the line `refused`, number, place. */

@@ -21,9 +21,15 @@ struct shtegomir_ranked plain_rank(const uint32_t *values, size_t values_len, ui
 struct shtegomir_placed plain_place_direct(const uint32_t *aggregates, size_t aggregates_len, const uint32_t *table,
                                            size_t table_len, uint32_t population, uint16_t *bands, size_t bands_len);
 
+/* Bands by tally alone, for which the library has no entry: the report places so. */
 struct shtegomir_placed plain_place_tally(const uint32_t *aggregates, size_t aggregates_len, const uint32_t *table,
                                           size_t table_len, uint32_t population, uint16_t *bands, size_t bands_len,
                                           uint32_t *counts, size_t counts_len);
+
+struct shtegomir_placed plain_rank_and_place(const uint32_t *aggregates, size_t aggregates_len, const uint32_t *table,
+                                             size_t table_len, uint32_t population, uint32_t *ranks, size_t ranks_len,
+                                             uint32_t *percentiles, size_t percentiles_len, uint16_t *bands, size_t bands_len,
+                                             uint32_t *counts, size_t counts_len);
 
 /* Bands by tally, whose counts are kept from call to call: they are the faster ones for a full file too. */
 struct shtegomir_text plain_report(const uint8_t *file, size_t file_len, uint8_t *text, size_t text_len);

@@ -1,6 +1,7 @@
 /* Times each entry against plain C that does the same job (plain.h), in one run, and holds what both give to each other. Prints a
  * table. The two take turns, and the least time of each counts. Buffers are not cleared between calls: they hold what the call
- * before left; what a call clears itself is in its time.
+ * before left; what a call clears itself is in its time. In the rows 'one call for two' the second column is not plain C alone: see
+ * two_calls.
  */
 #include <stdio.h>
 #include <string.h>
@@ -201,6 +202,7 @@ static void race_scores(void)
 static uint32_t values[MOST], ranks[MOST], ranks_plain[MOST], percentiles[MOST], percentiles_plain[MOST];
 static uint32_t counts[COUNTS], counts_plain[COUNTS];
 static uint16_t bands[MOST], bands_plain[MOST];
+static uint32_t remainder, remainder_plain;
 static size_t count;
 
 static void ranks_by_proof(void)
@@ -223,14 +225,53 @@ static void direct_by_c(void)
     plain_place_direct(values, count, table, BANDS, 100000, bands_plain, count);
 }
 
-static void tally_by_proof(void)
+static void both_by_proof(void)
 {
-    shtegomir_place_tally(values, count, table, BANDS, 100000, bands, count, counts, COUNTS);
+    remainder = shtegomir_rank_and_place(values, count, table, BANDS, 100000, ranks, count, percentiles, count, bands, count, counts,
+                                         COUNTS)
+                    .remainder;
 }
 
-static void tally_by_c(void)
+static void both_by_c(void)
 {
-    plain_place_tally(values, count, table, BANDS, 100000, bands_plain, count, counts_plain, COUNTS);
+    remainder_plain = plain_rank_and_place(values, count, table, BANDS, 100000, ranks_plain, count, percentiles_plain, count,
+                                           bands_plain, count, counts_plain, COUNTS)
+                          .remainder;
+}
+
+/* The two calls for which the one stands: the library's ranks, and then bands by tally, in plain C, since the library's own entry for
+ * them has given way to the one call. */
+static void two_calls(void)
+{
+    shtegomir_rank(values, count, ranks_plain, count, percentiles_plain, count);
+    remainder_plain =
+        plain_place_tally(values, count, table, BANDS, 100000, bands_plain, count, counts_plain, COUNTS).remainder;
+}
+
+/* What an earlier row left cannot serve for this one. */
+static void forget(void)
+{
+    memset(ranks_plain, 255, sizeof ranks_plain);
+    memset(percentiles_plain, 255, sizeof percentiles_plain);
+    memset(bands_plain, 255, sizeof bands_plain);
+    memset(counts_plain, 255, sizeof counts_plain);
+    remainder_plain = UINT32_MAX;
+    memset(ranks, 0, sizeof ranks);
+    memset(percentiles, 0, sizeof percentiles);
+    memset(bands, 0, sizeof bands);
+    memset(counts, 0, sizeof counts);
+    remainder = 0;
+}
+
+static void race_both(const char *job, void (*other)(void))
+{
+    forget();
+    race(job, count, both_by_proof, other, 1);
+    same("ranks", ranks, ranks_plain, count * sizeof *ranks);
+    same("percentiles", percentiles, percentiles_plain, count * sizeof *percentiles);
+    same("bands", bands, bands_plain, count * sizeof *bands);
+    same("counts", counts, counts_plain, sizeof counts);
+    same("remainders", &remainder, &remainder_plain, sizeof remainder);
 }
 
 static void race_cohorts(void)
@@ -251,9 +292,11 @@ static void race_cohorts(void)
     }
     for (int i = 0; i < 3; i++) {
         count = sizes[i];
-        race("bands by tally, students", count, tally_by_proof, tally_by_c, 1);
-        same("bands", bands, bands_plain, count * sizeof *bands);
-        same("counts", counts, counts_plain, sizeof counts);
+        race_both("ranks and bands, students", both_by_c);
+    }
+    for (int i = 0; i < 3; i++) {
+        count = sizes[i];
+        race_both("one call for two, students", two_calls);
     }
 }
 

@@ -11,29 +11,39 @@ use Rattle.paper.specs.Limits.{mostAggregate, bandCount, mostEntry, mostTallied
 use Rattle.paper.specs.Lists.{sum, count, first, sumOf, listed, firstOver, someOver}
 use Rattle.paper.proofs.Firsts.{first-here, none-has}
 use Rattle.paper.specs.Rulings.{accepted, refused, _at_}
+use Rattle.paper.specs.Rounding.{nearest}
+use Rattle.ranks.specs.Ranking.{ranksOf, percentilesOf}
 use Rattle.tally.specs.Counts.{numberAt}
 use Rattle.tally.specs.Places.{places, bandUpTo}
 use Rattle.tally.specs.Examples.{full}
 use Rattle.bands.specs.Placing.{remainder}
 use Rattle.bands.specs.Bands.{bandsOf}
-use Rattle.bands.specs.Promise.{ruling, Lent, lent, tallyRuling}
+use Rattle.bands.specs.Promise.{ruling, Lent, lent, togetherRuling}
 
--- 400.00, 400.00, 300.00
+-- 400.00, 400.00, 300.00; 400.00, 300.00, 300.00
 abbrev pub three : List ℕ
 three = 40000 ∷ 40000 ∷ 30000 ∷ []
 
--- Y=2000: 99.90, 99.90, 99.85. Y=1000: half a place in each band, so that one student has 99.90, which equality fits
-pub bands : (bandsOf three full 2000 ≡ 1998 ∷ 1998 ∷ 1997 ∷ []) × (bandsOf (40000 ∷ []) full 1000 ≡ 1998 ∷ [])
+abbrev pub pair : List ℕ
+pair = 40000 ∷ 30000 ∷ 30000 ∷ []
+
+-- Y=2000: 99.90, 99.90, 99.85; 99.95, 99.85, 99.85. Y=1000: half a place in each band, so that one student has 99.90, which equality fits
+pub bands : (bandsOf three full 2000 ≡ 1998 ∷ 1998 ∷ 1997 ∷ []) × (bandsOf pair full 2000 ≡ 1999 ∷ 1997 ∷ 1997 ∷ []) × (bandsOf (40000 ∷ []) full 1000 ≡ 1998 ∷ [])
 unfolding bandsOf listed bandUpTo places full count sum sumOf
-bands = (refl, refl)
+bands = (refl, refl, refl)
 
 -- the remainder: none of those, one of two at Y=1, both where they are tied
-pub remainders : (remainder three full 2000 ≡ 0) × (remainder (40000 ∷ 30000 ∷ []) full 1 ≡ 1) × (remainder (30000 ∷ 30000 ∷ []) full 1 ≡ 2)
+pub remainders : (remainder three full 2000 ≡ 0) × (remainder (40000 ∷ 30000 ∷ []) full 1 ≡ 1) × (remainder (30000 ∷ 30000 ∷ []) full 1 ≡ 2) × (remainder pair full 2000 ≡ 0)
 unfolding remainder places full count sum sumOf
-remainders = (refl, refl, refl)
+remainders = (refl, refl, refl, refl)
 
--- the tally: two have 400.00, one has 300.00, none has 350.00
-pub tallies : (numberAt three 40000 ≡ 2) × (numberAt three 30000 ≡ 1) × (numberAt three 35000 ≡ 0)
+-- ranks and percentiles: the tied take the highest rank, of all three where they are on top, of two where they are below
+pub ranked : (ranksOf three ≡ 3 ∷ 3 ∷ 1 ∷ []) × (percentilesOf three ≡ 100000 ∷ 100000 ∷ 33333 ∷ []) × (ranksOf pair ≡ 3 ∷ 2 ∷ 2 ∷ []) × (percentilesOf pair ≡ 100000 ∷ 66667 ∷ 66667 ∷ [])
+unfolding ranksOf percentilesOf listed count sum nearest
+ranked = (refl, refl, refl, refl)
+
+-- the tally: one has 400.00, two have 300.00, none has 350.00
+pub tallies : (numberAt pair 40000 ≡ 1) × (numberAt pair 30000 ≡ 2) × (numberAt pair 35000 ≡ 0)
 unfolding numberAt count sum
 tallies = (refl, refl, refl)
 
@@ -50,9 +60,9 @@ full-within =
     none-has bandCount (λ i. ltb mostEntry (getD (replicate bandCount mostEntry) i 0))
     (λ i l. let e : getD (replicate bandCount mostEntry) i 0 ≤ mostEntry = omega (arith, getD-replicate {A = ℕ} bandCount i mostEntry 0 l) in le-ltb mostEntry (getD (replicate bandCount mostEntry) i 0) e)
 
-pub within : (someOver mostAggregate three ≡ false) × (someOver mostAggregate (40000 ∷ 30000 ∷ []) ≡ false) × (someOver mostAggregate [] ≡ false)
+pub within : (someOver mostAggregate three ≡ false) × (someOver mostAggregate (40000 ∷ 30000 ∷ []) ≡ false) × (someOver mostAggregate [] ≡ false) × (someOver mostAggregate pair ≡ false)
 unfolding first
-within = (refl, refl, refl)
+within = (refl, refl, refl, refl)
 
 before-three : (i : ℕ) → i < 3 → ltb mostEntry (getD faulty i 0) ≡ false
 unfolding full
@@ -83,10 +93,10 @@ pub nobody : (ruling [] full 1 [] ≡ accepted 0) × (ruling [] full 0 [] ≡ re
 unfolding full remainder count sum
 nobody = (rw (full-within, within .2) refl, refl, refl, refl, simp (places-over .0) refl)
 
--- by tally: over 100000 students; no counts
-pub too-many : (aggregates table : List ℕ) (Y : ℕ) (before : Lent) → mostTallied < length aggregates → tallyRuling aggregates table Y before ≡ refused (2 at mostTallied)
+-- with the ranks: over 100000 students; no counts
+pub too-many : (aggregates table : List ℕ) (Y : ℕ) (before : Lent) → mostTallied < length aggregates → togetherRuling aggregates table Y before ≡ refused (2 at mostTallied)
 too-many aggregates table Y before h = simp (lt-ltb mostTallied (length aggregates) h) refl
 
-pub no-counts : tallyRuling three full 0 (lent (0 ∷ 0 ∷ 0 ∷ []) []) ≡ refused (11 at 0)
+pub no-counts : togetherRuling three full 0 (lent (0 ∷ 0 ∷ 0 ∷ []) (0 ∷ 0 ∷ 0 ∷ []) (0 ∷ 0 ∷ 0 ∷ []) []) ≡ refused (11 at 0)
 unfolding full
 no-counts = refl

@@ -11,15 +11,17 @@ use Rattle.paper.proofs.Ruled.{given-values}
 use Rattle.tally.specs.Counts.{numberAt}
 use Rattle.tally.proofs.Counting.{count-one}
 use Rattle.bands.specs.Placing.{BestPlacement, remainder}
-use Rattle.bands.specs.Promise.{directRules, Promise, Lent, tallyRules, TallyPromise}
-use Rattle.bands.specs.Given.{Given, directly, byTally}
+use Rattle.bands.specs.Promise.{directRules, Promise, Lent, togetherRules, TogetherPromise}
+use Rattle.bands.specs.Given.{Given, directly, ranked}
 use Rattle.bands.specs.declared.Answer.the-variants.{Accepted}
 use Rattle.bands.proofs.Placed.{best-once, best-stable, keeps-totals}
 
 -- the bands are the best placement, and the remainder is the paper's
 pub given-best : (aggregates table : List ℕ) (Y n : ℕ) (bands : List ℕ) → Given aggregates table Y n bands → BestPlacement aggregates table Y bands × (n ≡ remainder aggregates table Y)
 given-best aggregates table Y n bands (directly before h) = (h .leaves, given-values (directRules aggregates table Y (length before)) (remainder aggregates table Y) n (sym (h .says)))
-given-best aggregates table Y n bands (byTally before counts h) = (h .leaves .best, given-values (tallyRules aggregates table Y (length (before .bands)) (length (before .counts))) (remainder aggregates table Y) n (sym (h .says)))
+given-best aggregates table Y n bands (ranked before ranks percentiles counts h) =
+    let rules = togetherRules aggregates table Y (length (before .ranks)) (length (before .percentiles)) (length (before .bands)) (length (before .counts)) in
+    (h .leaves .best, given-values rules (remainder aggregates table Y) n (sym (h .says)))
 
 -- with table and Y kept, a student's band stays when those with lower aggregates are changed, removed or joined by others:
 -- the students at and above agree in number for each aggregate, in whatever order they are listed
@@ -48,6 +50,6 @@ given-once aggregates table Y m n bands others a b =
 
 -- so the two entries agree wherever both accept
 pub agree : (aggregates table : List ℕ) (Y m n : ℕ) (before bands : List ℕ) (before′ after : Lent)
-    → Promise aggregates table Y before (Accepted m) bands → TallyPromise aggregates table Y before′ (Accepted n) after → (m ≡ n) × (bands ≡ after .bands)
+    → Promise aggregates table Y before (Accepted m) bands → TogetherPromise aggregates table Y before′ (Accepted n) after → (m ≡ n) × (bands ≡ after .bands)
 agree aggregates table Y m n before bands before′ after a b =
-    given-once aggregates table Y m n bands (after .bands) (directly before a) (byTally before′ (after .counts) b)
+    given-once aggregates table Y m n bands (after .bands) (directly before a) (ranked before′ (after .ranks) (after .percentiles) (after .counts) b)

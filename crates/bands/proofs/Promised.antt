@@ -3,7 +3,7 @@ use Prim.Native.Nat.{ℕ, _≤_}
 use native.Mathlib.Omega.{arith}
 use mathlib.Core.Path.{_≡_, refl, ap}
 use mathlib.Core.Bool.{false}
-use mathlib.Core.List.{List, _∷_, _++_}
+use mathlib.Core.List.{List, _++_}
 use lib.ListN.{length, getD}
 use borrow.Author.Tests.{ltb-false, le-ltb, eqb-true, eq-eqb, not-false}
 use Rattle.paper.specs.Limits.{mostAggregate, mostPopulation, bandCount, mostEntry, mostStudents, mostTallied, tallyCount}
@@ -14,12 +14,13 @@ use Rattle.paper.specs.Rulings.{accepted}
 use Rattle.paper.proofs.Firsts.{none-over, none-has}
 use Rattle.paper.proofs.Ranging.{within-true, true-within}
 use Rattle.paper.proofs.Ruled.{refusal-fault, Unbroken, unbroken-parts, Tabled, tabled}
+use Rattle.ranks.proofs.Promised.{computed, ranked-is}
 use Rattle.tally.specs.Counts.{tallyOf}
 use Rattle.tally.proofs.Tallies.{tally-exists, tally-once}
 use Rattle.bands.specs.Placing.{BestPlacement, remainder}
 use Rattle.bands.specs.Bands.{bandsOf}
-use Rattle.bands.specs.Promise.{said, sizeRules, countsRule, tableRules, aggregateRules, directRules, ruling, Promise, Lent, lent, tallyRules, tallyRuling, Placed, TallyPromise, answer, left, tallyLeft}
-use Rattle.bands.specs.Inner.{Ready, TallyReady}
+use Rattle.bands.specs.Promise.{said, sizeRules, lentRules, cohortRules, directRules, ruling, Promise, Lent, lent, ranking, togetherRules, togetherRuling, Together, TogetherPromise, answer, left, together, togetherLeft}
+use Rattle.bands.specs.Inner.{Ready, TogetherReady}
 use Rattle.bands.specs.declared.Answer.{Answer}
 use Rattle.bands.specs.declared.Answer.the-variants.{Accepted, Refused}
 use Rattle.bands.proofs.Placed.{best-exists, best-once}
@@ -36,8 +37,9 @@ tells = record { accepting = λ n. refl; refusing = λ x. refl; told = told }
 direct-tabled : (aggregates table : List ℕ) (Y bands : ℕ) → Tabled (directRules aggregates table Y bands)
 direct-tabled aggregates table Y bands = (λ e. refl, (λ e. refl, (λ e. refl, (λ e. refl, (λ e. refl, (λ e. refl, tt))))))
 
-tally-tabled : (aggregates table : List ℕ) (Y bands counts : ℕ) → Tabled (tallyRules aggregates table Y bands counts)
-tally-tabled aggregates table Y bands counts = (λ e. refl, (λ e. refl, (λ e. refl, (λ e. refl, (λ e. refl, (λ e. refl, (λ e. refl, tt)))))))
+together-tabled : (aggregates table : List ℕ) (Y ranks percentiles bands counts : ℕ) → Tabled (togetherRules aggregates table Y ranks percentiles bands counts)
+together-tabled aggregates table Y ranks percentiles bands counts =
+    (λ e. refl, (λ e. refl, (λ e. refl, (λ e. refl, (λ e. refl, (λ e. refl, (λ e. refl, (λ e. refl, (λ e. refl, tt)))))))))
 
 -- by direct count: the computed answer and bands are permitted, no others are, and two permitted results are equal
 module _ (aggregates table : List ℕ) (Y : ℕ) (before : List ℕ) where
@@ -53,33 +55,41 @@ module _ (aggregates table : List ℕ) (Y : ℕ) (before : List ℕ) where
   pub determined : {r s : Answer} {b c : List ℕ} → Promise aggregates table Y before r b → Promise aggregates table Y before s c → (r ≡ s) × (b ≡ c)
   determined = every.determined tells every.rules-is owes
 
--- by tally the same of both buffers
-module _ (aggregates table : List ℕ) (Y : ℕ) (before : Lent) where
-  pub tally-owes : Owes (λ n. Placed aggregates table Y) (tallyRuling aggregates table Y before) (λ n. lent (bandsOf aggregates table Y) (tallyOf aggregates))
-  tally-owes = record {
-    met = λ n e. record { best = best-exists aggregates table Y; tallied = tally-exists aggregates };
-    only = λ n b x.
-        let counts = tally-once aggregates (b .counts) (tallyOf aggregates) (x .tallied) (tally-exists aggregates) in
-        let bands = best-once aggregates table Y (b .bands) (bandsOf aggregates table Y) (x .best) (best-exists aggregates table Y) in
-        λ i. lent (bands i) (counts i);
-  }
+-- the buffers filled with what is computed hold what is promised, and no others do
+pub together-holds : (aggregates table : List ℕ) (Y : ℕ) → Together aggregates table Y (together aggregates table Y)
+together-holds aggregates table Y = record { ranked = computed aggregates; best = best-exists aggregates table Y; tallied = tally-exists aggregates }
 
-  pub tally-meets : let o = tallyRuling aggregates table Y before in TallyPromise aggregates table Y before (answer o) (tallyLeft aggregates table Y before o)
-  tally-meets =
+together-once : (aggregates table : List ℕ) (Y : ℕ) (b : Lent) → Together aggregates table Y b → b ≡ together aggregates table Y
+together-once aggregates table Y b x =
+    let ranked = ranked-is aggregates (ranking b) (x .ranked) in
+    let bands = best-once aggregates table Y (b .bands) (bandsOf aggregates table Y) (x .best) (best-exists aggregates table Y) in
+    let counts = tally-once aggregates (b .counts) (tallyOf aggregates) (x .tallied) (tally-exists aggregates) in
+    λ i. lent (ranked i .ranks) (ranked i .percentiles) (bands i) (counts i)
+
+-- in one call with the ranks the same of all four buffers
+module _ (aggregates table : List ℕ) (Y : ℕ) (before : Lent) where
+  pub together-owes : Owes (λ n. Together aggregates table Y) (togetherRuling aggregates table Y before) (λ n. together aggregates table Y)
+  together-owes = record { met = λ n e. together-holds aggregates table Y; only = λ n. together-once aggregates table Y }
+
+  pub together-meets : let o = togetherRuling aggregates table Y before in TogetherPromise aggregates table Y before (answer o) (togetherLeft aggregates table Y before o)
+  together-meets =
+      let ranks = length (before .ranks) in
+      let percentiles = length (before .percentiles) in
       let bands = length (before .bands) in
       let counts = length (before .counts) in
-      every.meets tells every.rules-is tally-owes (tabled (tallyRules aggregates table Y bands counts) (remainder aggregates table Y) (tally-tabled aggregates table Y bands counts))
+      every.meets tells every.rules-is together-owes
+      (tabled (togetherRules aggregates table Y ranks percentiles bands counts) (remainder aggregates table Y) (together-tabled aggregates table Y ranks percentiles bands counts))
 
-  pub tally-only : {r : Answer} {b : Lent} → TallyPromise aggregates table Y before r b
-      → let o = tallyRuling aggregates table Y before in (r ≡ answer o) × (b ≡ tallyLeft aggregates table Y before o)
-  tally-only = every.only tells every.rules-is tally-owes
+  pub together-only : {r : Answer} {b : Lent} → TogetherPromise aggregates table Y before r b
+      → let o = togetherRuling aggregates table Y before in (r ≡ answer o) × (b ≡ togetherLeft aggregates table Y before o)
+  together-only = every.only tells every.rules-is together-owes
 
-  pub tally-determined : {r s : Answer} {b c : Lent} → TallyPromise aggregates table Y before r b → TallyPromise aggregates table Y before s c → (r ≡ s) × (b ≡ c)
-  tally-determined = every.determined tells every.rules-is tally-owes
+  pub together-determined : {r s : Answer} {b c : Lent} → TogetherPromise aggregates table Y before r b → TogetherPromise aggregates table Y before s c → (r ≡ s) × (b ≡ c)
+  together-determined = every.determined tells every.rules-is together-owes
 
 -- what the screening clears is ready to be placed
 ready : (limit : ℕ) (aggregates table : List ℕ) (Y : ℕ) (bands : List ℕ) → limit ≤ mostTallied → Unbroken (sizeRules limit (length aggregates) (length table) (length bands))
-    → Unbroken (tableRules table Y ++ aggregateRules aggregates) → Ready aggregates table Y bands
+    → Unbroken (cohortRules aggregates table Y) → Ready aggregates table Y bands
 ready limit aggregates table Y bands m s k =
     record {
       students = record {
@@ -96,14 +106,27 @@ ready limit aggregates table Y bands m s k =
 
 pub direct-ready : (aggregates table : List ℕ) (Y : ℕ) (bands : List ℕ) → Unbroken (directRules aggregates table Y (length bands)) → Ready aggregates table Y bands
 direct-ready aggregates table Y bands h =
-    let k = unbroken-parts (sizeRules mostStudents (length aggregates) (length table) (length bands)) (tableRules table Y ++ aggregateRules aggregates) h in
+    let k = unbroken-parts (sizeRules mostStudents (length aggregates) (length table) (length bands)) (cohortRules aggregates table Y) h in
     ready mostStudents aggregates table Y bands (omega arith) (k .0) (k .1)
 
-pub tally-ready : (aggregates table : List ℕ) (Y : ℕ) (bands counts : List ℕ) → Unbroken (tallyRules aggregates table Y (length bands) (length counts))
-    → TallyReady aggregates table Y bands counts
-tally-ready aggregates table Y bands counts h =
-    let k = unbroken-parts (sizeRules mostTallied (length aggregates) (length table) (length bands)) (countsRule (length counts) ∷ tableRules table Y ++ aggregateRules aggregates) h in
-    record { ready = ready mostTallied aggregates table Y bands (omega arith) (k .0) (k .1 .1); long = eqb-true (length counts) tallyCount (not-false _ (k .1 .0)) }
+pub together-ready : (aggregates table : List ℕ) (Y : ℕ) (before : Lent)
+    → Unbroken (togetherRules aggregates table Y (length (before .ranks)) (length (before .percentiles)) (length (before .bands)) (length (before .counts)))
+    → TogetherReady aggregates table Y before
+together-ready aggregates table Y before h =
+    let n = length aggregates in
+    let lents = lentRules n (length (before .ranks)) (length (before .percentiles)) (length (before .counts)) in
+    let k = unbroken-parts (sizeRules mostTallied n (length table) (length (before .bands))) (lents ++ cohortRules aggregates table Y) h in
+    let m = unbroken-parts lents (cohortRules aggregates table Y) (k .1) in
+    let cleared = ready mostTallied aggregates table Y (before .bands) (omega arith) (k .0) (m .1) in
+    record {
+      ready = cleared;
+      ranking = record {
+        students = cleared .students;
+        ranks-long = eqb-true (length (before .ranks)) n (not-false _ (m .0 .0));
+        percentiles-long = eqb-true (length (before .percentiles)) n (not-false _ (m .0 .1 .0));
+        counts-long = eqb-true (length (before .counts)) tallyCount (not-false _ (m .0 .1 .1 .0));
+      };
+    }
 
 -- and what no rule refuses is accepted, whatever the table's entries are: it needn't rise
 all-within : (limit : ℕ) (xs : List ℕ) → ((i : ℕ) → getD xs i 0 ≤ limit) → someOver limit xs ≡ false
@@ -121,15 +144,17 @@ accepts aggregates table Y bands r few some =
       all-within mostAggregate aggregates (r .students .each),
     ) refl
 
-pub tally-accepts : (aggregates table : List ℕ) (Y : ℕ) (bands counts : List ℕ) → TallyReady aggregates table Y bands counts → 1 ≤ Y
-    → tallyRuling aggregates table Y (lent bands counts) ≡ accepted (remainder aggregates table Y)
-tally-accepts aggregates table Y bands counts t some =
+pub together-accepts : (aggregates table : List ℕ) (Y : ℕ) (before : Lent) → TogetherReady aggregates table Y before → 1 ≤ Y
+    → togetherRuling aggregates table Y before ≡ accepted (remainder aggregates table Y)
+together-accepts aggregates table Y before t some =
     let r = t .ready in
     rw (
       le-ltb mostTallied (length aggregates) (r .students .few),
       eq-eqb (length table) bandCount (r .sized .long),
-      eq-eqb (length bands) (length aggregates) (r .lent),
-      eq-eqb (length counts) tallyCount (t .long),
+      eq-eqb (length (before .bands)) (length aggregates) (r .lent),
+      eq-eqb (length (before .ranks)) (length aggregates) (t .ranking .ranks-long),
+      eq-eqb (length (before .percentiles)) (length aggregates) (t .ranking .percentiles-long),
+      eq-eqb (length (before .counts)) tallyCount (t .ranking .counts-long),
       true-within 1 mostPopulation Y some (r .people),
       all-within mostEntry table (r .sized .each),
       all-within mostAggregate aggregates (r .students .each),

@@ -15,11 +15,11 @@ use Rattle.tally.specs.Examples.{full}
 use Rattle.tally.proofs.Reaching.{none-fit}
 use Rattle.tally.proofs.Tallies.{tally-exists}
 use Rattle.bands.specs.Bands.{bandsOf}
-use Rattle.bands.specs.Promise.{ruling, Promise, Lent, lent, tallyRuling, TallyPromise}
+use Rattle.bands.specs.Promise.{ruling, Promise, Lent, togetherRuling, TogetherPromise}
 use Rattle.bands.specs.declared.Answer.{Answer}
 use Rattle.bands.specs.declared.Answer.the-variants.{Accepted, Refused}
-use Rattle.bands.proofs.ByHand.{three, bands, remainders, tallies, full-within, within}
-use Rattle.bands.proofs.Promised.{tells, owes, tally-owes}
+use Rattle.bands.proofs.ByHand.{three, pair, bands, remainders, ranked, tallies, full-within, within}
+use Rattle.bands.proofs.Promised.{tells, owes, together-owes}
 
 -- Y=1, two different: both in 0.00
 both-none : bandsOf (40000 ∷ 30000 ∷ []) full 1 ≡ 0 ∷ 0 ∷ []
@@ -34,9 +34,13 @@ three-ruled : (a b c : ℕ) → ruling three full 2000 (a ∷ b ∷ c ∷ []) �
 unfolding full
 three-ruled a b c = rw (full-within, within .0) (ap accepted (remainders .0))
 
-tally-ruled : (counts : List ℕ) (a b c : ℕ) → length counts ≡ tallyCount → tallyRuling three full 2000 (lent (a ∷ b ∷ c ∷ []) counts) ≡ accepted 0
+-- buffers lent for three students
+abbrev pub ForThree : Lent → Type 0
+ForThree before = (length (before .ranks) ≡ 3) × (length (before .percentiles) ≡ 3) × (length (before .bands) ≡ 3) × (length (before .counts) ≡ tallyCount)
+
+pair-ruled : (before : Lent) → ForThree before → togetherRuling pair full 2000 before ≡ accepted 0
 unfolding full
-tally-ruled counts a b c l = rw (eq-eqb (length counts) tallyCount l, full-within, within .0) (ap accepted (remainders .0))
+pair-ruled before l = rw (l .0, l .1, l .2, eq-eqb (length (before .counts)) tallyCount (l .3), full-within, within .3) (ap accepted (remainders .3))
 
 -- by direct count: no program that refuses them, writes no bands, puts all in 0.00, places the first alone, splits the tied or
 -- gives them the band of the first of them
@@ -51,32 +55,35 @@ only-two a b r after h =
     let o = only-as tells rules-is (owes (40000 ∷ 30000 ∷ []) full 1 (a ∷ b ∷ [])) (two-ruled a b) h in
     (o .0, o .1 ∙ both-none)
 
--- by tally the same, and no entry left as a sum or as a band
-pub only-three-by-tally : (counts : List ℕ) → length counts ≡ tallyCount → (a b c : ℕ) (r : Answer) (after : Lent)
-    → TallyPromise three full 2000 (lent (a ∷ b ∷ c ∷ []) counts) r after
-    → (r ≡ Accepted 0) × (after .bands ≡ 1998 ∷ 1998 ∷ 1997 ∷ []) × (getD (after .counts) 40000 0 ≡ 2) × (getD (after .counts) 30000 0 ≡ 1) × (getD (after .counts) 35000 0 ≡ 0)
-only-three-by-tally counts l a b c r after h =
-    let o = only-as tells rules-is (tally-owes three full 2000 (lent (a ∷ b ∷ c ∷ []) counts)) (tally-ruled counts a b c l) h in
-    let w = tally-exists three in (
+-- with the ranks: nor one that ranks the tied by their lower side, counts only the smaller, rounds a percentile down, writes ranks and no
+-- bands, or leaves an entry of the tally as a sum or as a band
+pub only-pair-together : (before : Lent) → ForThree before → (r : Answer) (after : Lent) → TogetherPromise pair full 2000 before r after
+    → (r ≡ Accepted 0) × (after .ranks ≡ 3 ∷ 2 ∷ 2 ∷ []) × (after .percentiles ≡ 100000 ∷ 66667 ∷ 66667 ∷ []) × (after .bands ≡ 1999 ∷ 1997 ∷ 1997 ∷ [])
+    × (getD (after .counts) 40000 0 ≡ 1) × (getD (after .counts) 30000 0 ≡ 2) × (getD (after .counts) 35000 0 ≡ 0)
+only-pair-together before l r after h =
+    let o = only-as tells rules-is (together-owes pair full 2000 before) (pair-ruled before l) h in
+    let w = tally-exists pair in (
       o .0,
-      ap (λ (l : Lent). l .bands) (o .1) ∙ bands .0,
+      ap (λ (l : Lent). l .ranks) (o .1) ∙ ranked .2,
+      ap (λ (l : Lent). l .percentiles) (o .1) ∙ ranked .3,
+      ap (λ (l : Lent). l .bands) (o .1) ∙ bands .1,
       ap (λ (l : Lent). getD (l .counts) 40000 0) (o .1) ∙ w .each 40000 (lit< tt) ∙ tallies .0,
       ap (λ (l : Lent). getD (l .counts) 30000 0) (o .1) ∙ w .each 30000 (lit< tt) ∙ tallies .1,
       ap (λ (l : Lent). getD (l .counts) 35000 0) (o .1) ∙ w .each 35000 (lit< tt) ∙ tallies .2,
     )
 
--- Y=0 is refused by both entries, and no program that writes a band or a count then
+-- Y=0 is refused by both entries, and no program that writes a band, a rank, a percentile or a count then
 zero-ruled : (a b c : ℕ) → ruling three full 0 (a ∷ b ∷ c ∷ []) ≡ refused (9 at 0)
 unfolding full
 zero-ruled a b c = refl
 
-zero-tally-ruled : (counts : List ℕ) (a b c : ℕ) → length counts ≡ tallyCount → tallyRuling three full 0 (lent (a ∷ b ∷ c ∷ []) counts) ≡ refused (9 at 0)
+zero-pair-ruled : (before : Lent) → ForThree before → togetherRuling pair full 0 before ≡ refused (9 at 0)
 unfolding full
-zero-tally-ruled counts a b c l = rw (eq-eqb (length counts) tallyCount l) refl
+zero-pair-ruled before l = rw (l .0, l .1, l .2, eq-eqb (length (before .counts)) tallyCount (l .3)) refl
 
 pub only-refused : (a b c : ℕ) (r : Answer) (after : List ℕ) → Promise three full 0 (a ∷ b ∷ c ∷ []) r after → (r ≡ Refused (WrongPopulation 0)) × (after ≡ a ∷ b ∷ c ∷ [])
 only-refused a b c r after h = only-as tells rules-is (owes three full 0 (a ∷ b ∷ c ∷ [])) (zero-ruled a b c) h
 
-pub only-refused-by-tally : (counts : List ℕ) → length counts ≡ tallyCount → (a b c : ℕ) (r : Answer) (after : Lent)
-    → let before = lent (a ∷ b ∷ c ∷ []) counts in TallyPromise three full 0 before r after → (r ≡ Refused (WrongPopulation 0)) × (after ≡ before)
-only-refused-by-tally counts l a b c r after h = only-as tells rules-is (tally-owes three full 0 (lent (a ∷ b ∷ c ∷ []) counts)) (zero-tally-ruled counts a b c l) h
+pub only-refused-together : (before : Lent) → ForThree before → (r : Answer) (after : Lent) → TogetherPromise pair full 0 before r after
+    → (r ≡ Refused (WrongPopulation 0)) × (after ≡ before)
+only-refused-together before l r after h = only-as tells rules-is (together-owes pair full 0 before) (zero-pair-ruled before l) h

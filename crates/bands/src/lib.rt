@@ -1,11 +1,11 @@
-// The placing of students in bands: by direct count, and by tally.
-ghost use Rattle.bands.specs.Promise.{Promise, lent, TallyPromise};
+// The placing of students in bands: by direct count, and over the tally with their ranks.
+ghost use Rattle.bands.specs.Promise.{Promise, lent, TogetherPromise};
 use paper::refusal::Refusal;
 use paper::screening::Verdict;
 
-mod by_tally;
 mod direct;
 mod screening;
+mod together;
 
 // The remainder, or what is wrong.
 pub enum Answer {
@@ -25,20 +25,41 @@ pub fn place(aggregates: &[u32], table: &[u32], population: u32, bands: &mut [u1
     Answer::Accepted { remainder }
 }
 
-// Bands of up to 100000 students, by a tally in a lent buffer of 50001 counts, whatever it held before. A refusal writes nothing.
-pub fn place_by_tally(
+// Ranks, percentiles and bands of up to 100000 students, over a tally in a lent buffer of 50001 counts, whatever the buffers held
+// before. It fills all of them, or a refusal writes nothing.
+pub fn rank_and_place(
     aggregates: &[u32],
     table: &[u32],
     population: u32,
+    ranks: &mut [u32],
+    percentiles: &mut [u32],
     bands: &mut [u16],
     counts: &mut [u32],
 ) -> Answer
-    ensures { λ r. ⌜ TallyPromise (now (aggregates .entry)) (now (table .entry)) population (lent (now (bands .entry)) (now (counts .entry))) r (lent (now (bands .exit)) (now (counts .exit))) ⌝ }
+    ensures { λ r. ⌜ TogetherPromise (now (aggregates .entry)) (now (table .entry)) population
+        (lent (now (ranks .entry)) (now (percentiles .entry)) (now (bands .entry)) (now (counts .entry))) r
+        (lent (now (ranks .exit)) (now (percentiles .exit)) (now (bands .exit)) (now (counts .exit))) ⌝ }
 {
-    let screened = screening::by_tally(aggregates, table, population, bands.len(), counts.len());
+    let screened = screening::together(
+        aggregates,
+        table,
+        population,
+        ranks.len(),
+        percentiles.len(),
+        bands.len(),
+        counts.len(),
+    );
     if let Verdict::Refused(x) = screened {
         return Answer::Refused(x);
     }
-    let remainder = by_tally::place_all(aggregates, table, population, bands, counts);
+    let remainder = together::fill(
+        aggregates,
+        table,
+        population,
+        ranks,
+        percentiles,
+        bands,
+        counts,
+    );
     Answer::Accepted { remainder }
 }

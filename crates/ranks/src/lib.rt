@@ -4,7 +4,7 @@ ghost use Rattle.ranks.specs.Inner.{Fillable};
 use paper::limits::MOST_VALUES;
 use paper::refusal::Refusal;
 
-mod percent;
+pub mod percent;
 mod search;
 mod sort;
 

@@ -2,14 +2,14 @@
 use Prim.Native.Nat.{ℕ, _≤_}
 use native.Mathlib.Omega.{arith}
 use mathlib.Core.Path.{_≡_, sym}
-use mathlib.Core.List.{List, _∷_, _++_}
+use mathlib.Core.List.{List, _++_}
 use lib.ListN.{length}
 use borrow.Author.Tests.{ltb-false}
 use Rattle.paper.specs.Limits.{mostStudents, mostTallied}
 use Rattle.paper.specs.Rulings.{Outcome, accepted, refused, valuesOr, Rule, judged}
 use Rattle.paper.proofs.Ruled.{all-unbroken, given-values}
 use Rattle.bands.specs.Placing.{remainder}
-use Rattle.bands.specs.Promise.{said, sizeRules, countsRule, tableRules, aggregateRules, Promise, Lent, TallyPromise}
+use Rattle.bands.specs.Promise.{said, sizeRules, lentRules, cohortRules, Promise, Lent, TogetherPromise}
 use Rattle.bands.specs.declared.Answer.{Answer}
 use Rattle.report.proofs.Few.{remainder-within}
 
@@ -28,7 +28,9 @@ few limit aggregates table Y bands more (accepted n) e =
 
 -- so of every answer that the promises permit
 pub direct-few : (aggregates table : List ℕ) (Y : ℕ) (before : List ℕ) {r : Answer} {after : List ℕ} → Promise aggregates table Y before r after → valuesOr 0 (said r) ≤ mostStudents
-direct-few aggregates table Y before {r = r} p = few mostStudents aggregates table Y (length before) (tableRules table Y ++ aggregateRules aggregates) (said r) (p .says)
+direct-few aggregates table Y before {r = r} p = few mostStudents aggregates table Y (length before) (cohortRules aggregates table Y) (said r) (p .says)
 
-pub tally-few : (aggregates table : List ℕ) (Y : ℕ) (before : Lent) {r : Answer} {after : Lent} → TallyPromise aggregates table Y before r after → valuesOr 0 (said r) ≤ mostTallied
-tally-few aggregates table Y before {r = r} p = few mostTallied aggregates table Y (length (before .bands)) (countsRule (length (before .counts)) ∷ tableRules table Y ++ aggregateRules aggregates) (said r) (p .says)
+pub together-few : (aggregates table : List ℕ) (Y : ℕ) (before : Lent) {r : Answer} {after : Lent} → TogetherPromise aggregates table Y before r after → valuesOr 0 (said r) ≤ mostTallied
+together-few aggregates table Y before {r = r} p =
+    let lents = lentRules (length aggregates) (length (before .ranks)) (length (before .percentiles)) (length (before .counts)) in
+    few mostTallied aggregates table Y (length (before .bands)) (lents ++ cohortRules aggregates table Y) (said r) (p .says)

@@ -20,7 +20,7 @@ use Rattle.shtegomir.specs.Best.{form as bestForm, BestCalled}
 use Rattle.shtegomir.specs.Participation.{form as curveForm, CurveCalled}
 use Rattle.shtegomir.specs.Ranking.{form as rankForm, RankCalled}
 use Rattle.shtegomir.specs.Scoring.{form as scoresForm, ScoresCalled}
-use Rattle.shtegomir.specs.Placing.{form as placedForm, DirectCalled, TallyCalled}
+use Rattle.shtegomir.specs.Placing.{form as placedForm, DirectCalled, TogetherCalled}
 use Rattle.shtegomir.specs.Text.{form as textForm, ReportCalled}
 use Rattle.shtegomir.specs.declared.telling.Told.{Told}
 use Rattle.shtegomir.specs.declared.best.Best.{Best}
@@ -66,11 +66,12 @@ module _ (aggregates table : List ℕ) (Y : ℕ) (before : List ℕ) where
   direct-meets = called-met placedForm (bands.meets aggregates table Y before)
 
 module _ (aggregates table : List ℕ) (Y : ℕ) (before : bandsSay.Lent) where
-  pub tally-determined : {s t : Placed} {b c : bandsSay.Lent} → TallyCalled aggregates table Y before s b → TallyCalled aggregates table Y before t c → (s ≡ t) × (b ≡ c)
-  tally-determined = called-once (λ q r. bands.tally-determined aggregates table Y before)
+  pub together-determined : {s t : Placed} {b c : bandsSay.Lent} → TogetherCalled aggregates table Y before s b → TogetherCalled aggregates table Y before t c → (s ≡ t) × (b ≡ c)
+  together-determined = called-once (λ q r. bands.together-determined aggregates table Y before)
 
-  pub tally-meets : let o = bandsSay.tallyRuling aggregates table Y before in TallyCalled aggregates table Y before (placedForm (bandsSay.answer o)) (bandsSay.tallyLeft aggregates table Y before o)
-  tally-meets = called-met placedForm (bands.tally-meets aggregates table Y before)
+  pub together-meets : let o = bandsSay.togetherRuling aggregates table Y before in
+      TogetherCalled aggregates table Y before (placedForm (bandsSay.answer o)) (bandsSay.togetherLeft aggregates table Y before o)
+  together-meets = called-met placedForm (bands.together-meets aggregates table Y before)
 
 module _ (file before : List ℕ) where
   pub report-determined : {s t : Text} {b c : List ℕ} → ReportCalled file before s b → ReportCalled file before t c → (s ≡ t) × (b ≡ c)

@@ -3,7 +3,7 @@ use Prim.Native.Nat.{ℕ}
 use mathlib.Core.List.{List}
 use Rattle.paper.specs.Rulings.{Outcome, valuesOr}
 use Rattle.paper.specs.Promises.{Called}
-use Rattle.bands.specs.Promise.{said, Promise, Lent, TallyPromise}
+use Rattle.bands.specs.Promise.{said, Promise, Lent, TogetherPromise}
 use Rattle.bands.specs.declared.Answer.{Answer}
 use Rattle.shtegomir.specs.Telling.{told}
 use Rattle.shtegomir.specs.declared.placing.Placed.{Placed}
@@ -19,6 +19,6 @@ form r = flatPlaced (said r)
 abbrev pub DirectCalled : List ℕ → List ℕ → ℕ → List ℕ → Placed → List ℕ → Type 0
 DirectCalled aggregates table Y before s after = Called (Promise aggregates table Y before) form s after
 
--- by tally the same of both buffers
-abbrev pub TallyCalled : List ℕ → List ℕ → ℕ → Lent → Placed → Lent → Type 0
-TallyCalled aggregates table Y before s after = Called (TallyPromise aggregates table Y before) form s after
+-- in one call with the ranks the same of all four buffers
+abbrev pub TogetherCalled : List ℕ → List ℕ → ℕ → Lent → Placed → Lent → Type 0
+TogetherCalled aggregates table Y before s after = Called (TogetherPromise aggregates table Y before) form s after

@@ -1,10 +1,10 @@
-// Bands, by direct count and by tally.
+// Bands, by direct count, and in one call with the ranks.
 ghost use mathlib.Core.Path.{_≡_};
 ghost use Prim.Native.Nat.{_≤_};
 ghost use Rattle.paper.specs.Limits.{mostTallied};
 ghost use Rattle.paper.specs.Rulings.{valuesOr};
 ghost use Rattle.bands.specs.Promise.{said, lent};
-ghost use Rattle.shtegomir.specs.Placing.{form, DirectCalled, TallyCalled};
+ghost use Rattle.shtegomir.specs.Placing.{form, DirectCalled, TogetherCalled};
 use crate::telling::Told;
 use crate::telling::nothing_wrong;
 use crate::telling::tell;
@@ -50,14 +50,26 @@ pub extern "C" fn shtegomir_place_direct(
 }
 
 #[no_mangle]
-pub extern "C" fn shtegomir_place_tally(
+pub extern "C" fn shtegomir_rank_and_place(
     aggregates: &[u32],
     table: &[u32],
     population: u32,
+    ranks: &mut [u32],
+    percentiles: &mut [u32],
     bands: &mut [u16],
     counts: &mut [u32],
 ) -> Placed
-    ensures { λ r. ⌜ TallyCalled (now (aggregates .entry)) (now (table .entry)) population (lent (now (bands .entry)) (now (counts .entry))) r (lent (now (bands .exit)) (now (counts .exit))) ⌝ }
+    ensures { λ r. ⌜ TogetherCalled (now (aggregates .entry)) (now (table .entry)) population
+        (lent (now (ranks .entry)) (now (percentiles .entry)) (now (bands .entry)) (now (counts .entry))) r
+        (lent (now (ranks .exit)) (now (percentiles .exit)) (now (bands .exit)) (now (counts .exit))) ⌝ }
 {
-    flatten(bands::place_by_tally(aggregates, table, population, bands, counts))
+    flatten(bands::rank_and_place(
+        aggregates,
+        table,
+        population,
+        ranks,
+        percentiles,
+        bands,
+        counts,
+    ))
 }

@@ -79,10 +79,24 @@ fn tied() {
         answer,
         &bands,
     );
-    let mut counts = [0u32; TALLY_COUNT];
+    let mut ranks = [0u32; 3];
+    let mut percentiles = [0u32; 3];
     let mut others = [0u16; 3];
-    let again = bands::place_by_tally(&aggregates, &full, 2000, &mut others, &mut counts);
-    placed(b"not splitting tied students, by tally: ", again, &others);
+    let mut counts = [0u32; TALLY_COUNT];
+    let again = bands::rank_and_place(
+        &aggregates,
+        &full,
+        2000,
+        &mut ranks,
+        &mut percentiles,
+        &mut others,
+        &mut counts,
+    );
+    placed(
+        b"not splitting tied students, in one call with their ranks: ",
+        again,
+        &others,
+    );
 }
 
 // Half a place in each band. Rounded up each is one, and the student has 99.95; rounded down each is none, and the student is left.

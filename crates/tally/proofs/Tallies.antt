@@ -1,20 +1,63 @@
--- A tally is one; its sums from the top are C; and what the walk makes of sums.
+-- A tally is one; its sums up to each entry can be taken apart, those from the top are C; and what the walk makes of them.
 use Prim.Native.Nat.{ℕ, zero, suc, _+_, _-_, _≤_, _<_}
 use native.Mathlib.Omega.{arith}
 use native.Mathlib.Decide.{decLt}
-use mathlib.Core.Path.{_≡_, sym, _∙_}
+use native.Mathlib.Numerals.{add-one}
+use mathlib.Core.Path.{_≡_, refl, sym, _∙_}
 use mathlib.Core.List.{List}
 use lib.ListN.{length, getD, drop, List·getD-eq-default}
 use lib.Seq.{ext-getD}
 use Rattle.paper.specs.Limits.{topBand, mostTallied, tallyCount}
-use Rattle.paper.specs.Lists.{sumOf}
-use Rattle.paper.proofs.Listing.{length-listed, at-list, sumOf-end, sumOf-step, sumOf-back, sumOf-falls}
+use Rattle.paper.specs.Lists.{sum, sumOf}
+use Rattle.paper.proofs.Listing.{sum-step, is-listed, length-listed, at-list, sumOf-end, sumOf-step, sumOf-back, sumOf-falls}
 use Rattle.tally.specs.Counts.{atLeast, numberAt, Tallied, tallyOf}
 use Rattle.tally.specs.Places.{bandOf}
 use Rattle.tally.specs.Inner.{Aggregates}
-use Rattle.tally.specs.InnerTally.{sumsOf, bandsBy}
+use Rattle.tally.specs.InnerTally.{sumsTo, before, stepsOf, Rising, sumsOf, bandsBy}
 use Rattle.tally.proofs.Counting.{at-within, at-none, at-split}
 use Rattle.tally.proofs.Reaching.{band-highest}
+
+-- a sum up to an index, and from it on, are the sum of the list
+pub sum-parts : (xs : List ℕ) (n : ℕ) → n ≤ length xs → sum n (λ j. getD xs j 0) + sumOf (drop n xs) ≡ sumOf xs
+unfolding sum
+sum-parts xs zero l = omega arith
+sum-parts xs (suc n) l =
+    let e : n + 1 ≡ suc n = omega arith in
+    omega (arith, sum-parts xs n (omega arith), rw e at (sumOf-step xs n (omega arith)))
+
+pub sum-to-most : (xs : List ℕ) (n : ℕ) → n ≤ length xs → sum n (λ j. getD xs j 0) ≤ sumOf xs
+sum-to-most xs n l = omega (arith, sum-parts xs n l)
+
+pub before-next : (sums : List ℕ) (t : ℕ) → before sums (t + 1) ≡ getD sums t 0
+before-next sums t = rw add-one refl
+
+-- the sums up to each entry, which rise
+module _ (counts : List ℕ) where
+  pub sums-to-long : length (sumsTo counts) ≡ length counts
+  unfolding sumsTo
+  sums-to-long = length-listed 0 (length counts) (λ t. sum (t + 1) (λ j. getD counts j 0))
+
+  pub sums-to-at : (t : ℕ) → t < length counts → getD (sumsTo counts) t 0 ≡ sum (t + 1) (λ j. getD counts j 0)
+  unfolding sumsTo
+  sums-to-at t l = at-list (length counts) (λ t. sum (t + 1) (λ j. getD counts j 0)) t l
+
+  -- each has its entry more than the one before it
+  sums-to-step : (t : ℕ) → t < length counts → getD (sumsTo counts) t 0 ≡ before (sumsTo counts) t + getD counts t 0
+  unfolding sum
+  sums-to-step zero l = sums-to-at zero l
+  sums-to-step (suc t) l =
+      let e : t + 1 ≡ suc t = omega arith in
+      omega (arith, sums-to-at (suc t) l, sum-step (suc t) (λ j. getD counts j 0), rw e at (sums-to-at t (omega arith)))
+
+  pub sums-to-rising : Rising (sumsTo counts)
+  sums-to-rising t l = omega (arith, sums-to-step t (omega (arith, sums-to-long)))
+
+  -- so that taken apart they are the counts
+  pub parted-back : stepsOf (sumsTo counts) ≡ counts
+  unfolding stepsOf
+  parted-back =
+      sym (is-listed counts (length (sumsTo counts)) (λ t. getD (sumsTo counts) t 0 - before (sumsTo counts) t) (sym sums-to-long)
+      (λ t l. omega (arith, sums-to-step t (omega (arith, sums-to-long)))))
 
 module _ (counts : List ℕ) where
   pub sums-long : length (sumsOf counts) ≡ length counts

@@ -1,5 +1,6 @@
 -- What a turn of each loop adds.
 use Prim.Native.Nat.{ℕ, zero, suc, _+_, _-_, _*_, _≤_, _<_}
+use native.Mathlib.Nat.{le-refl}
 use native.Mathlib.Omega.{arith}
 use native.Mathlib.Decide.{ℕ-discrete}
 use mathlib.Core.Path.{_≡_, refl, sym, ap, _∙_}
@@ -11,15 +12,16 @@ use lib.Seq.{getD-set-same, getD-set-other}
 use borrow.Author.Tests.{eq-eqb, ne-eqb}
 use Rattle.paper.specs.Limits.{mostPopulation, topBand, tallyCount}
 use Rattle.paper.specs.Lists.{pick, sum, count, sumOf, listed}
-use Rattle.paper.proofs.Listing.{sum-none, sum-back, is-listed, sumOf-end}
+use Rattle.paper.proofs.Filling.{Filled, none-filled, next-filled, all-filled}
+use Rattle.paper.proofs.Listing.{sum-none, sum-step, sum-back, is-listed, sumOf-end}
 use Rattle.tally.specs.Counts.{numberAt, tallyOf}
 use Rattle.tally.specs.Places.{onePlace, bandOf}
 use Rattle.tally.specs.Inner.{Sized}
 use Rattle.tally.specs.InnerSearch.{Stands, SearchAt, Reaches}
-use Rattle.tally.specs.InnerTally.{sumsOf, bandsBy, leftAt, remainderBy}
+use Rattle.tally.specs.InnerTally.{sumsTo, before, stepsOf, Rising, sumsOf, bandsBy, leftAt, remainderBy}
 use Rattle.tally.proofs.Counting.{count-next}
 use Rattle.tally.proofs.Reaching.{search-top, search-for, search-on, left-is}
-use Rattle.tally.proofs.Tallies.{sums-long, sums-at, sums-back, sums-most}
+use Rattle.tally.proofs.Tallies.{sum-to-most, before-next, sums-long, sums-at, sums-back, sums-most}
 
 -- one more student counted
 pub tally-next : (xs counts : List ℕ) (i a : ℕ) → a ≡ getD xs i 0 → a < length counts
@@ -44,6 +46,63 @@ pub zeros-at : (n t : ℕ) → getD (replicate {A = ℕ} n 0) t 0 ≡ 0
 zeros-at zero t = refl
 zeros-at (suc n) zero = refl
 zeros-at (suc n) (suc t) = zeros-at n t
+
+-- a list that a walk up has filled with f below t
+pub record Up (before : List ℕ) (f : ℕ → ℕ) (t : ℕ) (xs : List ℕ) : Type 0 where
+  pub filled : Filled (length before) f t xs
+  pub rest : (j : ℕ) → t ≤ j → getD xs j 0 ≡ getD before j 0
+
+up-start : (before : List ℕ) (f : ℕ → ℕ) → Up before f 0 before
+up-start before f = record { filled = none-filled _ f before refl; rest = λ j l. refl }
+
+up-next : {before : List ℕ} {f : ℕ → ℕ} {t : ℕ} {xs : List ℕ} (v : ℕ) → Up before f t xs → t < length before → v ≡ f t → Up before f (t + 1) (set xs t v)
+up-next {t = t} {xs = xs} v w l e =
+    record { filled = next-filled v (w .filled) l e; rest = λ j m. getD-set-other xs t j v 0 (λ z. omega arith) ∙ w .rest j (omega arith) }
+
+-- the sums up to each entry have come up to t, with s the sum below it
+pub record Summed (counts : List ℕ) (t : ℕ) (sums : List ℕ) (s : ℕ) : Type 0 where
+  pub up : Up counts (λ t. sum (t + 1) (λ j. getD counts j 0)) t sums
+  pub sum-is : s ≡ sum t (λ j. getD counts j 0)
+
+pub summed-start : (counts : List ℕ) → Summed counts 0 counts 0
+summed-start counts = record { up = up-start counts _; sum-is = sym (sum-none (λ j. getD counts j 0)) }
+
+module _ {counts : List ℕ} {t : ℕ} {sums : List ℕ} {s : ℕ} (w : Summed counts t sums s) (l : t < length counts) where
+  summed-here : s + getD sums t 0 ≡ sum (t + 1) (λ j. getD counts j 0)
+  summed-here = omega (arith, w .sum-is, w .up .rest t (le-refl t), sum-step t (λ j. getD counts j 0))
+
+  pub summed-most : s + getD sums t 0 ≤ sumOf counts
+  summed-most = omega (arith, summed-here, sum-to-most counts (t + 1) (omega arith))
+
+  pub summed-next : Summed counts (t + 1) (set sums t (s + getD sums t 0)) (s + getD sums t 0)
+  summed-next = record { up = up-next _ (w .up) l summed-here; sum-is = summed-here }
+
+pub summed-end : {counts : List ℕ} {t : ℕ} {sums : List ℕ} {s : ℕ} → Summed counts t sums s → length counts ≤ t → sums ≡ sumsTo counts
+unfolding sumsTo
+summed-end w l = all-filled (w .up .filled) l
+
+-- sums are taken apart below t, with s the one before it
+pub record Parted (sums : List ℕ) (t : ℕ) (counts : List ℕ) (s : ℕ) : Type 0 where
+  pub up : Up sums (λ t. getD sums t 0 - before sums t) t counts
+  pub before-is : s ≡ before sums t
+
+pub parted-start : (sums : List ℕ) → Parted sums 0 sums 0
+parted-start sums = record { up = up-start sums _; before-is = refl }
+
+module _ {sums : List ℕ} {t : ℕ} {counts : List ℕ} {s : ℕ} (w : Parted sums t counts s) (l : t < length sums) where
+  pub parted-least : Rising sums → s ≤ getD counts t 0
+  parted-least h = omega (arith, w .before-is, w .up .rest t (le-refl t), h t l)
+
+  pub parted-next : Parted sums (t + 1) (set counts t (getD counts t 0 - s)) (getD counts t 0)
+  parted-next =
+      record {
+        up = up-next _ (w .up) l (omega (arith, w .before-is, w .up .rest t (le-refl t)));
+        before-is = w .up .rest t (le-refl t) ∙ sym (before-next sums t);
+      }
+
+pub parted-end : {sums : List ℕ} {t : ℕ} {counts : List ℕ} {s : ℕ} → Parted sums t counts s → length sums ≤ t → counts ≡ stepsOf sums
+unfolding stepsOf
+parted-end w l = all-filled (w .up .filled) l
 
 -- a list that a walk down has filled with f from t on
 pub record Down (before : List ℕ) (f : ℕ → ℕ) (t : ℕ) (xs : List ℕ) : Type 0 where

@@ -1,12 +1,28 @@
--- What the walk over a tally makes of it.
-use Prim.Native.Nat.{ℕ, _+_, _-_, _*_}
+-- What the passes over a tally make of it.
+use Prim.Native.Nat.{ℕ, zero, suc, _+_, _-_, _*_, _≤_, _<_}
 use mathlib.Core.List.{List}
 use lib.ListN.{length, getD, drop}
 use Rattle.paper.specs.Lists.{sum, sumOf, listed}
 use Rattle.paper.specs.Words.{_<?_, if_then_else_}
 use Rattle.tally.specs.Places.{onePlace, places, bandOf}
 
--- for each entry of a list the sum from it on
+-- for each entry of a list the sum up to it: of a tally, how many students have an aggregate at most t
+unfoldable pub sumsTo : List ℕ → List ℕ
+sumsTo counts = listed 0 (length counts) (λ t. sum (t + 1) (λ j. getD counts j 0))
+
+-- the entry before t, 0 before the first; and what each entry has more than the one before it
+abbrev pub before : List ℕ → ℕ → ℕ
+before sums zero = 0
+before sums (suc t) = getD sums t 0
+
+unfoldable pub stepsOf : List ℕ → List ℕ
+stepsOf sums = listed 0 (length sums) (λ t. getD sums t 0 - before sums t)
+
+-- what taking sums apart asks: none is less than the one before it
+abbrev pub Rising : List ℕ → Type 0
+Rising sums = (t : ℕ) → t < length sums → before sums t ≤ getD sums t 0
+
+-- for each entry of a list the sum from it on: of a tally, C
 unfoldable pub sumsOf : List ℕ → List ℕ
 sumsOf counts = listed 0 (length counts) (λ t. sumOf (drop t counts))
 

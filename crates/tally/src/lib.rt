@@ -1,9 +1,12 @@
-// The counts of aggregates, and the walk that turns them into bands and the remainder.
+// The counts of aggregates, their sums, and the walk that turns them into bands and the remainder.
 ghost use mathlib.Core.Path.{_≡_};
+ghost use Prim.Native.Nat.{_≤_};
 ghost use lib.ListN.{length, replicate};
+ghost use Rattle.paper.specs.Limits.{mostTallied};
+ghost use Rattle.paper.specs.Lists.{sumOf};
 ghost use Rattle.tally.specs.Counts.{tallyOf};
 ghost use Rattle.tally.specs.Inner.{Countable, Walkable};
-ghost use Rattle.tally.specs.InnerTally.{sumsOf, bandsBy, remainderBy};
+ghost use Rattle.tally.specs.InnerTally.{sumsTo, stepsOf, Rising, sumsOf, bandsBy, remainderBy};
 
 pub mod search;
 
@@ -29,6 +32,35 @@ pub fn count(aggregates: &[u32], counts: &mut [u32])
         let a = aggregates[i] as usize;
         counts[a] += 1;
         i += 1;
+    }
+}
+
+// Turns each count into the sum of the counts up to it.
+pub fn sum_up(counts: &mut [u32])
+    requires { ⌜ sumOf (now counts) ≤ mostTallied ⌝ }
+    ensures { λ _. ⌜ now (counts .exit) ≡ sumsTo (now (counts .entry)) ⌝ }
+{
+    let mut sum: u32 = 0;
+    let mut t: usize = 0;
+    while t < counts.len() {
+        sum += counts[t];
+        counts[t] = sum;
+        t += 1;
+    }
+}
+
+// Turns such sums into the counts again.
+pub fn take_apart(sums: &mut [u32])
+    requires { ⌜ Rising (now sums) ⌝ }
+    ensures { λ _. ⌜ now (sums .exit) ≡ stepsOf (now (sums .entry)) ⌝ }
+{
+    let mut below: u32 = 0;
+    let mut t: usize = 0;
+    while t < sums.len() {
+        let sum = sums[t];
+        sums[t] = sum - below;
+        below = sum;
+        t += 1;
     }
 }
 

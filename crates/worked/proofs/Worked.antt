@@ -5,8 +5,8 @@ use mathlib.Core.Path.{_≡_, refl, ap, _∙_}
 use mathlib.Core.List.{List, [], _∷_, map}
 use lib.ListN.{length, getD, take, drop}
 use lib.Dec.{lit<}
-use borrow.Author.Tests.{le-ltb, ltb-false}
-use Rattle.paper.specs.Limits.{mostStudents, mostTallied, tallyCount}
+use borrow.Author.Tests.{le-ltb, ltb-false, eq-eqb}
+use Rattle.paper.specs.Limits.{mostStudents, mostTallied}
 use Rattle.paper.specs.Lists.{sum, count, first, sumOf, listed}
 use Rattle.paper.specs.Bytes.{word}
 use Rattle.paper.specs.Rounding.{nearest}
@@ -33,10 +33,10 @@ use Rattle.tally.proofs.Reaching.{none-fit}
 use Rattle.bands.specs.declared.Answer.{Answer as BandsAnswer}
 use Rattle.bands.specs.Placing.{remainder}
 use Rattle.bands.specs.Bands.{bandsOf}
-use Rattle.bands.specs.Promise.{directRules, tallyRules, Lent, said as saidBands}
+use Rattle.bands.specs.Promise.{directRules, togetherRules, Lent, said as saidBands}
 use Rattle.bands.proofs.ByHand.{full-within}
-use Rattle.bands.proofs.Promised.{tells, owes, tally-owes}
-use Rattle.worked.specs.Called.{Rated, Placed, alone, withTable, directly, byTally}
+use Rattle.bands.proofs.Promised.{tells, owes, together-owes}
+use Rattle.worked.specs.Called.{Rated, LentFor, Placed, alone, withTable, directly, ranked}
 use Rattle.worked.specs.Example.{counted, atRate, atarOf, Example, best-set_by_is_, figures_give_, rate_band_has_, aggregates_by_of_get_leaving_, Holds, All}
 use Rattle.worked.specs.Worked.{examples}
 
@@ -53,10 +53,12 @@ rated : (q : List ℕ) (o : Outcome Values) (r : CurveAnswer) → populationRuli
 rated q o r c (alone h) = h .says ∙ c
 rated q o r c (withTable before after l h) = h .says ∙ table-ruled q before l ∙ c
 
--- whom the direct count accepts the tally accepts too
-taken : (xs table : List ℕ) (Y bands counts : ℕ) → bands ≡ length xs → counts ≡ tallyCount → Unbroken (directRules xs table Y (length xs)) → Unbroken (tallyRules xs table Y bands counts)
-taken xs table Y bands counts l m k =
-    rw (l, m) (le-ltb mostTallied (length xs) (omega (arith, ltb-false mostStudents (length xs) (k .0))), (k .1 .0, (k .1 .1 .0, (refl, k .1 .1 .1))))
+-- whom the direct count accepts the call with the ranks accepts too
+taken : (xs table : List ℕ) (Y : ℕ) (before : Lent) → LentFor xs before → Unbroken (directRules xs table Y (length xs))
+    → Unbroken (togetherRules xs table Y (length (before .ranks)) (length (before .percentiles)) (length (before .bands)) (length (before .counts)))
+taken xs table Y before l k =
+    rw (l .ranks, l .percentiles, l .bands, l .counts, eq-eqb (length xs) (length xs) refl)
+    (le-ltb mostTallied (length xs) (omega (arith, ltb-false mostStudents (length xs) (k .0))), (k .1 .0, (refl, (refl, (refl, (refl, k .1 .1 .1))))))
 
 -- bands and remainder, by either entry
 placed : (xs table : List ℕ) (Y : ℕ) (atars : List ℕ) (n : ℕ) (r : BandsAnswer) (bands : List ℕ) → Computes (aggregates xs by table of Y get atars leaving n)
@@ -65,9 +67,10 @@ placed xs table Y atars n r bands c (directly before l h) =
     let e = unbroken-all (directRules xs table Y (length before)) (remainder xs table Y) (rw l (c .0)) in
     let o = only-as tells rules-is (owes xs table Y before) (e ∙ ap accepted (c .1)) h in
     (ap saidBands (o .0), ap (map atarOf) (o .1) ∙ c .2)
-placed xs table Y atars n r bands c (byTally before counts m l h) =
-    let e = unbroken-all (tallyRules xs table Y (length (before .bands)) (length (before .counts))) (remainder xs table Y) (taken xs table Y _ _ l m (c .0)) in
-    let o = only-as tells rules-is (tally-owes xs table Y before) (e ∙ ap accepted (c .1)) h in
+placed xs table Y atars n r bands c (ranked before ranks percentiles counts l h) =
+    let rules = togetherRules xs table Y (length (before .ranks)) (length (before .percentiles)) (length (before .bands)) (length (before .counts)) in
+    let e = unbroken-all rules (remainder xs table Y) (taken xs table Y before l (c .0)) in
+    let o = only-as tells rules-is (together-owes xs table Y before) (e ∙ ap accepted (c .1)) h in
     (ap saidBands (o .0), ap (λ (b : Lent). map atarOf (b .bands)) (o .1) ∙ c .2)
 
 -- what computes so is promised so

@@ -73,7 +73,7 @@ percent-each-requires : tie.Need-percent-each-requires
 percent-each-requires c κs =
     let d = c .before .before .before .before in
     let s = sorted d in
-    record { long = same s .long ∙ sym (ranks-long d); within = counted-within (values s) (in-order s) (ranks d) (same s) (d .count-each .ensures) }
+    record { few = omega (arith, ranks-long d, begun s .few); long = same s .long ∙ sym (ranks-long d); within = counted-within (values s) (in-order s) (ranks d) (same s) (d .count-each .ensures) }
 
 same-length : tie.Need-same-length
 same-length c =

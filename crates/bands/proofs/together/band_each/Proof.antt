@@ -5,15 +5,15 @@ use mathlib.Core.Path.{refl, sym, _∙_}
 use native.Mathlib.Omega.{arith}
 use Prim.Native.Nat.{_-_}
 use borrow.Author.Needs.{needs}
-use Rattle.bands.proofs.by_tally.read.Statement.{statement}
-use Rattle.bands.proofs.by_tally.read.Tie as tie
+use Rattle.bands.proofs.together.band_each.Statement.{statement}
+use Rattle.bands.proofs.together.band_each.Tie as tie
 
--- below i the bands are those found at the aggregates
+-- the bands of the students placed so far are those found at their aggregates
 abbrev Inv-loop : tie.InvT-loop
-Inv-loop aggregates found bands₀ i₀ bands i = Filled (length aggregates) (λ j. getD found (getD aggregates j 0) 0) i bands
+Inv-loop aggregates found bands₀ student₀ bands student = Filled (length aggregates) (λ j. getD found (getD aggregates j 0) 0) student bands
 
 abbrev μ-loop : tie.MeasureT-loop
-μ-loop aggregates found bands₀ i₀ bands i = length aggregates - i
+μ-loop aggregates found bands₀ student₀ bands student = length aggregates - student
 
 loop-holds : tie.Need-loop-holds Inv-loop μ-loop
 loop-holds c = none-filled _ _ _ (c .pre .lent)
@@ -25,16 +25,16 @@ shared-slice-read-a : tie.Need-shared-slice-read-a Inv-loop μ-loop
 shared-slice-read-a c = search needs
 
 cast-a : tie.Need-cast-a Inv-loop μ-loop
-cast-a c = omega (arith, c .before .before .before .pre .students .each (c .before .before .loop .i))
+cast-a c = omega (arith, c .before .before .before .pre .students .each (c .before .before .loop .student))
 
 mul-bands : tie.Need-mul-bands Inv-loop μ-loop
-mul-bands c = omega (arith, c .before .before .before .pre .students .each (c .before .before .loop .i))
+mul-bands c = omega (arith, c .before .before .before .pre .students .each (c .before .before .loop .student))
 
 shared-slice-read-bands : tie.Need-shared-slice-read-bands Inv-loop μ-loop
-shared-slice-read-bands c = omega (arith, c .before .before .before .before .pre .students .each (c .before .before .before .loop .i))
+shared-slice-read-bands c = omega (arith, c .before .before .before .before .pre .students .each (c .before .before .before .loop .student))
 
 cast-bands : tie.Need-cast-bands Inv-loop μ-loop
-cast-bands c = omega (arith, c .before .before .before .before .pre .within (getD (c .before .before .before .before .args .aggregates .now) (c .before .before .before .loop .i) 0))
+cast-bands c = omega (arith, c .before .before .before .before .pre .within (getD (c .before .before .before .before .args .aggregates .now) (c .before .before .before .loop .student) 0))
 
 mul-bands-2 : tie.Need-mul-bands-2 Inv-loop μ-loop
 mul-bands-2 c = search needs
@@ -42,8 +42,8 @@ mul-bands-2 c = search needs
 slice-write-bands : tie.Need-slice-write-bands Inv-loop μ-loop
 slice-write-bands c = search needs
 
-add-i : tie.Need-add-i Inv-loop μ-loop
-add-i c = search needs
+add-student : tie.Need-add-student Inv-loop μ-loop
+add-student c = search needs
 
 loop-less : tie.Need-loop-less Inv-loop μ-loop
 loop-less c = search needs
@@ -58,8 +58,8 @@ returns : tie.Need-returns Inv-loop μ-loop
 unfolding readOf
 returns c = all-filled (c .before .loop .inv) (c .loop-test .left)
 
-pub read-spec : {M : Type 1} → statement M
-read-spec =
+pub band-each-spec : {M : Type 1} → statement M
+band-each-spec =
     tie.close
     (tie.spec
     Inv-loop
@@ -73,7 +73,7 @@ read-spec =
     cast-bands
     mul-bands-2
     slice-write-bands
-    add-i
+    add-student
     loop-less
     loop-again
     same-length

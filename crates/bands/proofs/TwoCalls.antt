@@ -1,0 +1,72 @@
+-- One call gives what two gave: ranks over the aggregates, then bands by tally.
+use Prim.Native.Nat.{ℕ}
+use mathlib.Core.Path.{_≡_, refl, sym, _∙_}
+use mathlib.Core.Bool.{Bool, true, false, not}
+use mathlib.Core.List.{List, [], _∷_}
+use lib.ListN.{length}
+use lib.Dec.{ltb, eqb}
+use Rattle.paper.specs.Limits.{bandCount, mostTallied, tallyCount}
+use Rattle.paper.specs.Rulings.{Rule, _⇒_, _at_, judged}
+use Rattle.paper.proofs.Ruled.{given-values}
+use Rattle.ranks.specs.Meaning.{Meant}
+use Rattle.ranks.specs.Promise as ranksSay
+use Rattle.ranks.specs.declared.Answer.the-variants.{Accepted as Ranks}
+use Rattle.ranks.specs.declared.Answer.{Answer as RanksAnswer}
+use Rattle.ranks.proofs.Promised.{ranked-is}
+use Rattle.ranks.proofs.Means.{ranked-means}
+use Rattle.tally.proofs.Tallies.{tally-once}
+use Rattle.bands.specs.Placing.{remainder}
+use Rattle.bands.specs.Promise.{said, cohortRules, Lent, ranking, togetherRules, togetherRuling, TogetherPromise}
+use Rattle.bands.specs.TwoCalls.{TallyLent, tallyLent, tallyRules, TallyPromise, placing, thenRuled, twoRuling}
+use Rattle.bands.specs.declared.Answer.{Answer}
+use Rattle.bands.specs.declared.Answer.the-variants.{Accepted}
+use Rattle.bands.proofs.Placed.{best-once}
+
+-- its refusals are those of the two calls with the same buffers, the second made where the first accepts
+same-rules : (many table bands ranks percentiles counts : Bool) (more : List Rule) (v : ℕ)
+    → judged (many ⇒ 2 at mostTallied ∷ table ⇒ 11 at 0 ∷ bands ⇒ 11 at 0 ∷ ranks ⇒ 11 at 0 ∷ percentiles ⇒ 11 at 0 ∷ counts ⇒ 11 at 0 ∷ more) v
+    ≡ thenRuled (judged (many ⇒ 2 at mostTallied ∷ ranks ⇒ 11 at 0 ∷ percentiles ⇒ 11 at 0 ∷ []) tt)
+    (judged (many ⇒ 2 at mostTallied ∷ table ⇒ 11 at 0 ∷ bands ⇒ 11 at 0 ∷ counts ⇒ 11 at 0 ∷ more) v)
+same-rules true table bands ranks percentiles counts more v = refl
+same-rules false true bands true percentiles counts more v = refl
+same-rules false true bands false true counts more v = refl
+same-rules false true bands false false counts more v = refl
+same-rules false false true true percentiles counts more v = refl
+same-rules false false true false true counts more v = refl
+same-rules false false true false false counts more v = refl
+same-rules false false false true percentiles counts more v = refl
+same-rules false false false false true counts more v = refl
+same-rules false false false false false counts more v = refl
+
+module _ (aggregates table : List ℕ) (Y : ℕ) where
+  pub two-ruled : (before : Lent) → togetherRuling aggregates table Y before ≡ twoRuling aggregates table Y before
+  two-ruled before =
+      let n = length aggregates in
+      same-rules (ltb mostTallied n) (not (eqb (length table) bandCount)) (not (eqb (length (before .bands)) n)) (not (eqb (length (before .ranks)) n))
+      (not (eqb (length (before .percentiles)) n)) (not (eqb (length (before .counts)) tallyCount)) (cohortRules aggregates table Y) (remainder aggregates table Y)
+
+  -- so it says what they say
+  pub says-as-two : (before after : Lent) (first : ranksSay.Lent) (second : TallyLent) (r : Answer) (s : RanksAnswer) (t : Answer)
+      → TogetherPromise aggregates table Y before r after → ranksSay.Promise aggregates (ranking before) s first → TallyPromise aggregates table Y (placing before) t second
+      → said r ≡ thenRuled (ranksSay.said s) (said t)
+  says-as-two before after first second r s t h a b =
+      h .says ∙ two-ruled before ∙ (λ i. thenRuled (sym (a .says) i) (sym (b .says) i))
+
+  -- and where it accepts gives their ranks, percentiles, bands and remainder, and leaves their tally, whatever each was lent
+  pub one-for-two : (before after : Lent) (first₀ first : ranksSay.Lent) (second₀ second : TallyLent) (m n : ℕ)
+      → TogetherPromise aggregates table Y before (Accepted m) after → ranksSay.Promise aggregates first₀ Ranks first → TallyPromise aggregates table Y second₀ (Accepted n) second
+      → (m ≡ n) × (ranking after ≡ first) × (placing after ≡ second)
+  one-for-two before after first₀ first second₀ second m n h a b =
+      let rules = togetherRules aggregates table Y (length (before .ranks)) (length (before .percentiles)) (length (before .bands)) (length (before .counts)) in
+      let others = tallyRules aggregates table Y (length (second₀ .bands)) (length (second₀ .counts)) in
+      let left = remainder aggregates table Y in
+      let bands = best-once aggregates table Y (after .bands) (second .bands) (h .leaves .best) (b .leaves .best) in
+      let counts = tally-once aggregates (after .counts) (second .counts) (h .leaves .tallied) (b .leaves .tallied) in (
+        given-values rules left m (sym (h .says)) ∙ sym (given-values others left n (sym (b .says))),
+        ranked-is aggregates (ranking after) (h .leaves .ranked) ∙ sym (ranked-is aggregates first (a .leaves)),
+        λ i. tallyLent (bands i) (counts i),
+      )
+
+  -- ranks are 1 to N, tied students share one, a higher aggregate has a higher, and percentiles are nearest, halves up
+  pub ranks-mean : (before after : Lent) (n : ℕ) → TogetherPromise aggregates table Y before (Accepted n) after → Meant aggregates (ranking after)
+  ranks-mean before after n h = ranked-means aggregates (ranking after) (h .leaves .ranked)
