@@ -160,7 +160,7 @@ struct shtegomir_ranked {
     uint64_t refusal, place;
 };
 
-/* Ranks up to 100000 values, any numbers.
+/* Ranks up to 100000 values, any numbers. For aggregates that are placed too, call shtegomir_rank_and_place.
  *
  *   ranks        lent to be written, as many as there are values: the number of values that are at most one's own
  *   percentiles  lent to be written, as many: 100 times rank over the number of values, in thousandths, nearest, halves up
@@ -202,7 +202,11 @@ struct shtegomir_placed shtegomir_place_direct(const uint32_t *aggregates, size_
 
 /* Ranks and places up to 100000 students over one list of aggregates, by tally: the ranks and percentiles that shtegomir_rank gives for
  * it, and the placing as by direct count: of all that keep order, ties and places the one that gives every student at once the best
- * band. Where the calls accept they agree. All four buffers are filled, whatever they held before, or none.
+ * band. Where shtegomir_place_direct accepts too, bands and remainder are the same. All four buffers are filled, whatever they held
+ * before, or none. Bands of more than 512 students come from no other call: lend ranks and percentiles even where they are not wanted.
+ *
+ * For no student at all the lengths of ranks, percentiles and bands are 0, their pointers still not NULL; the remainder is 0, and so is
+ * every count.
  *
  *   aggregates   in hundredths, at most 50000; no student at all is fine too
  *   table        2000 participation entries in millionths, each at most 1000000; they need not rise

@@ -199,7 +199,7 @@ static void halves(void)
     expect("98.438", lent.percentile[62], 98438);
 }
 
-/* Everything is wrong at first, and then mended, one after another, in the order of the rules. */
+/* Every rule is broken at first, and then kept, one after another, in their order. */
 static void order(void)
 {
     static uint32_t many[100001];
@@ -210,8 +210,8 @@ static void order(void)
     left("100001 students", rank_and_place(many, 100001, 1999, 0, 3), SHTEGOMIR_TOO_MANY, 100000);
     left("a short table", rank_and_place(many, 3, 1999, 0, 3), SHTEGOMIR_WRONG_LENGTH, 0);
     left("short buffers", rank_and_place(many, 3, 2000, 0, 2), SHTEGOMIR_WRONG_LENGTH, 0);
-    left("nobody to place", rank_and_place(many, 3, 2000, 0, 3), SHTEGOMIR_WRONG_POPULATION, 0);
-    left("too many to place", rank_and_place(many, 3, 2000, 1000001, 3), SHTEGOMIR_WRONG_POPULATION, 0);
+    left("a population of zero", rank_and_place(many, 3, 2000, 0, 3), SHTEGOMIR_WRONG_POPULATION, 0);
+    left("a population over 1000000", rank_and_place(many, 3, 2000, 1000001, 3), SHTEGOMIR_WRONG_POPULATION, 0);
     left("an entry over", rank_and_place(many, 3, 2000, 1000000, 3), SHTEGOMIR_WRONG_ENTRY, 9);
     table[9] = 1000000;
     left("an aggregate over", rank_and_place(many, 3, 2000, 1000000, 3), SHTEGOMIR_WRONG_AGGREGATE, 2);

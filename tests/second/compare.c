@@ -723,8 +723,8 @@ static void spread(struct cohort *c)
         c->aggregates[i] = below(50001);
 }
 
-/* Of a hundred cohorts each length is damaged alone in one, each rule with the next in two, and a length for nobody in one; one is of
- * nobody, one all tied, one of as many students as there may be, with aggregates by chance. The others are any, some of them damaged. */
+/* Of a hundred cohorts each length is damaged alone in one, each rule with the next in two (the last with itself), and a length for nobody in
+ * one; one is of nobody, one all tied, one of as many students as there may be, with aggregates by chance. The others are any, some of them damaged. */
 static void make_any_cohort(struct cohort *c, unsigned turn)
 {
     switch (turn) {

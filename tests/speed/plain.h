@@ -21,7 +21,7 @@ struct shtegomir_ranked plain_rank(const uint32_t *values, size_t values_len, ui
 struct shtegomir_placed plain_place_direct(const uint32_t *aggregates, size_t aggregates_len, const uint32_t *table,
                                            size_t table_len, uint32_t population, uint16_t *bands, size_t bands_len);
 
-/* Bands by tally alone, for which the library has no entry: the report places so. */
+/* Bands by tally alone, for which the library has no entry: for plain_report, and for the two calls of speed.c. */
 struct shtegomir_placed plain_place_tally(const uint32_t *aggregates, size_t aggregates_len, const uint32_t *table,
                                           size_t table_len, uint32_t population, uint16_t *bands, size_t bands_len,
                                           uint32_t *counts, size_t counts_len);

@@ -24,26 +24,26 @@ use Rattle.bands.specs.Promise.{ruling, Lent, lent, togetherRuling}
 abbrev pub three : List ℕ
 three = 40000 ∷ 40000 ∷ 30000 ∷ []
 
-abbrev pub pair : List ℕ
-pair = 40000 ∷ 30000 ∷ 30000 ∷ []
+abbrev pub tiedBelow : List ℕ
+tiedBelow = 40000 ∷ 30000 ∷ 30000 ∷ []
 
 -- Y=2000: 99.90, 99.90, 99.85; 99.95, 99.85, 99.85. Y=1000: half a place in each band, so that one student has 99.90, which equality fits
-pub bands : (bandsOf three full 2000 ≡ 1998 ∷ 1998 ∷ 1997 ∷ []) × (bandsOf pair full 2000 ≡ 1999 ∷ 1997 ∷ 1997 ∷ []) × (bandsOf (40000 ∷ []) full 1000 ≡ 1998 ∷ [])
+pub bands : (bandsOf three full 2000 ≡ 1998 ∷ 1998 ∷ 1997 ∷ []) × (bandsOf tiedBelow full 2000 ≡ 1999 ∷ 1997 ∷ 1997 ∷ []) × (bandsOf (40000 ∷ []) full 1000 ≡ 1998 ∷ [])
 unfolding bandsOf listed bandUpTo places full count sum sumOf
 bands = (refl, refl, refl)
 
 -- the remainder: none of those, one of two at Y=1, both where they are tied
-pub remainders : (remainder three full 2000 ≡ 0) × (remainder (40000 ∷ 30000 ∷ []) full 1 ≡ 1) × (remainder (30000 ∷ 30000 ∷ []) full 1 ≡ 2) × (remainder pair full 2000 ≡ 0)
+pub remainders : (remainder three full 2000 ≡ 0) × (remainder (40000 ∷ 30000 ∷ []) full 1 ≡ 1) × (remainder (30000 ∷ 30000 ∷ []) full 1 ≡ 2) × (remainder tiedBelow full 2000 ≡ 0)
 unfolding remainder places full count sum sumOf
 remainders = (refl, refl, refl, refl)
 
 -- ranks and percentiles: the tied take the highest rank, of all three where they are on top, of two where they are below
-pub ranked : (ranksOf three ≡ 3 ∷ 3 ∷ 1 ∷ []) × (percentilesOf three ≡ 100000 ∷ 100000 ∷ 33333 ∷ []) × (ranksOf pair ≡ 3 ∷ 2 ∷ 2 ∷ []) × (percentilesOf pair ≡ 100000 ∷ 66667 ∷ 66667 ∷ [])
+pub ranked : (ranksOf three ≡ 3 ∷ 3 ∷ 1 ∷ []) × (percentilesOf three ≡ 100000 ∷ 100000 ∷ 33333 ∷ []) × (ranksOf tiedBelow ≡ 3 ∷ 2 ∷ 2 ∷ []) × (percentilesOf tiedBelow ≡ 100000 ∷ 66667 ∷ 66667 ∷ [])
 unfolding ranksOf percentilesOf listed count sum nearest
 ranked = (refl, refl, refl, refl)
 
 -- the tally: one has 400.00, two have 300.00, none has 350.00
-pub tallies : (numberAt pair 40000 ≡ 1) × (numberAt pair 30000 ≡ 2) × (numberAt pair 35000 ≡ 0)
+pub tallies : (numberAt tiedBelow 40000 ≡ 1) × (numberAt tiedBelow 30000 ≡ 2) × (numberAt tiedBelow 35000 ≡ 0)
 unfolding numberAt count sum
 tallies = (refl, refl, refl)
 
@@ -60,7 +60,7 @@ full-within =
     none-has bandCount (λ i. ltb mostEntry (getD (replicate bandCount mostEntry) i 0))
     (λ i l. let e : getD (replicate bandCount mostEntry) i 0 ≤ mostEntry = omega (arith, getD-replicate {A = ℕ} bandCount i mostEntry 0 l) in le-ltb mostEntry (getD (replicate bandCount mostEntry) i 0) e)
 
-pub within : (someOver mostAggregate three ≡ false) × (someOver mostAggregate (40000 ∷ 30000 ∷ []) ≡ false) × (someOver mostAggregate [] ≡ false) × (someOver mostAggregate pair ≡ false)
+pub within : (someOver mostAggregate three ≡ false) × (someOver mostAggregate (40000 ∷ 30000 ∷ []) ≡ false) × (someOver mostAggregate [] ≡ false) × (someOver mostAggregate tiedBelow ≡ false)
 unfolding first
 within = (refl, refl, refl, refl)
 

@@ -7,7 +7,7 @@ use Rattle.paper.specs.Lists.{sum, count, first}
 use Rattle.paper.specs.Rulings.{Outcome, accepted, refused, Rule, _at_, judged}
 use Rattle.tally.specs.Examples.{full}
 use Rattle.bands.specs.Placing.{remainder}
-use Rattle.bands.specs.Promise.{sizeRules, lentRules, tableRules, aggregateRules, ruling, lent, togetherRuling}
+use Rattle.bands.specs.Promise.{sizeRules, lentRules, ruling, lent, togetherRuling}
 use Rattle.bands.proofs.ByHand.{faulty, high, full-within, within, places-over}
 
 -- one student of 0.00 and Y=0: a table, how many ranks, percentiles and bands are lent, and counts
@@ -36,27 +36,10 @@ pub lengths : (says (sizeRules 512 3 1999 3) ≡ refused (11 at 0)) × (says (si
 lengths = (refl, refl, refl, refl, refl, refl, refl, refl)
 
 -- 11: the ranks one short and one too many, the percentiles, the counts likewise
-pub lents : (says (lentRules 3 3 3 50001) ≡ clear) × (says (lentRules 3 2 3 50001) ≡ refused (11 at 0)) × (says (lentRules 3 4 3 50001) ≡ refused (11 at 0))
+pub lent-lengths : (says (lentRules 3 3 3 50001) ≡ clear) × (says (lentRules 3 2 3 50001) ≡ refused (11 at 0)) × (says (lentRules 3 4 3 50001) ≡ refused (11 at 0))
     × (says (lentRules 3 3 2 50001) ≡ refused (11 at 0)) × (says (lentRules 3 3 4 50001) ≡ refused (11 at 0))
     × (says (lentRules 3 3 3 50000) ≡ refused (11 at 0)) × (says (lentRules 3 3 3 50002) ≡ refused (11 at 0)) × (says (lentRules 0 0 0 50001) ≡ clear)
-lents = (refl, refl, refl, refl, refl, refl, refl, refl)
-
--- 9, for bands at 0: Y zero; Y over 1000000
-pub populations : (says (tableRules [] 0) ≡ refused (9 at 0)) × (says (tableRules [] 1) ≡ clear) × (says (tableRules [] 1000000) ≡ clear) × (says (tableRules [] 1000001) ≡ refused (9 at 0))
-unfolding first
-populations = (refl, refl, refl, refl)
-
--- 13: a participation entry over 1000000, at its index, the lowest first; the table needn't rise
-pub entries : (says (tableRules (0 ∷ 1000000 ∷ []) 1) ≡ clear) × (says (tableRules (1000001 ∷ 0 ∷ []) 1) ≡ refused (13 at 0)) × (says (tableRules (0 ∷ 1000001 ∷ []) 1) ≡ refused (13 at 1))
-    × (says (tableRules (0 ∷ 1000001 ∷ 4294967295 ∷ []) 1) ≡ refused (13 at 1)) × (says (tableRules (1000000 ∷ 1000000 ∷ 0 ∷ []) 1) ≡ clear)
-unfolding first
-entries = (refl, refl, refl, refl, refl)
-
--- 12: an aggregate over 50000, at its index, the lowest first
-pub aggregates : (says (aggregateRules (50000 ∷ 0 ∷ [])) ≡ clear) × (says (aggregateRules (50001 ∷ 0 ∷ [])) ≡ refused (12 at 0)) × (says (aggregateRules (0 ∷ 50001 ∷ [])) ≡ refused (12 at 1))
-    × (says (aggregateRules (0 ∷ 50001 ∷ 4294967295 ∷ [])) ≡ refused (12 at 1))
-unfolding first
-aggregates = (refl, refl, refl, refl)
+lent-lengths = (refl, refl, refl, refl, refl, refl, refl, refl)
 
 -- by direct count 2 before 11 (the table alone, the bands alone), 11 before 9 (the table alone, the bands alone), 9 before 13 with Y over
 pub direct-order : (ruling (replicate 513 0) [] 1 (replicate 513 0) ≡ refused (2 at 512)) × (ruling (replicate 513 0) full 1 [] ≡ refused (2 at 512))

@@ -1,12 +1,14 @@
 -- One call gives what two gave: ranks over the aggregates, then bands by tally.
-use Prim.Native.Nat.{ℕ}
+use Prim.Native.Nat.{ℕ, _≤_, _<_}
+use native.Mathlib.Omega.{arith}
+use native.Mathlib.Decide.{decLt}
 use mathlib.Core.Path.{_≡_, refl, sym, _∙_}
 use mathlib.Core.Bool.{Bool, true, false, not}
 use mathlib.Core.List.{List, [], _∷_}
-use lib.ListN.{length}
+use lib.ListN.{length, getD}
 use lib.Dec.{ltb, eqb}
 use Rattle.paper.specs.Limits.{bandCount, mostTallied, tallyCount}
-use Rattle.paper.specs.Rulings.{Rule, _⇒_, _at_, judged}
+use Rattle.paper.specs.Rulings.{Outcome, accepted, refused, Rule, _⇒_, _at_, judged}
 use Rattle.paper.proofs.Ruled.{given-values}
 use Rattle.ranks.specs.Meaning.{Meant}
 use Rattle.ranks.specs.Promise as ranksSay
@@ -15,7 +17,7 @@ use Rattle.ranks.specs.declared.Answer.{Answer as RanksAnswer}
 use Rattle.ranks.proofs.Promised.{ranked-is}
 use Rattle.ranks.proofs.Means.{ranked-means}
 use Rattle.tally.proofs.Tallies.{tally-once}
-use Rattle.bands.specs.Placing.{remainder}
+use Rattle.bands.specs.Placing.{Keeps, remainder}
 use Rattle.bands.specs.Promise.{said, cohortRules, Lent, ranking, togetherRules, togetherRuling, TogetherPromise}
 use Rattle.bands.specs.TwoCalls.{TallyLent, tallyLent, tallyRules, TallyPromise, placing, thenRuled, twoRuling}
 use Rattle.bands.specs.declared.Answer.{Answer}
@@ -38,9 +40,14 @@ same-rules false false false true percentiles counts more v = refl
 same-rules false false false false true counts more v = refl
 same-rules false false false false false counts more v = refl
 
+-- where the two calls accept, each does
+both-accept : (o : Outcome (Unit {0})) (p : Outcome ℕ) (n : ℕ) → thenRuled o p ≡ accepted n → (o ≡ accepted tt) × (p ≡ accepted n)
+both-accept (accepted u) p n e = (refl, e)
+both-accept (refused f) p n e = absurd (let z : _≡_ {A = ℕ} 0 1 = cc in omega arith)
+
 module _ (aggregates table : List ℕ) (Y : ℕ) where
-  pub two-ruled : (before : Lent) → togetherRuling aggregates table Y before ≡ twoRuling aggregates table Y before
-  two-ruled before =
+  pub ruled-as-two : (before : Lent) → togetherRuling aggregates table Y before ≡ twoRuling aggregates table Y before
+  ruled-as-two before =
       let n = length aggregates in
       same-rules (ltb mostTallied n) (not (eqb (length table) bandCount)) (not (eqb (length (before .bands)) n)) (not (eqb (length (before .ranks)) n))
       (not (eqb (length (before .percentiles)) n)) (not (eqb (length (before .counts)) tallyCount)) (cohortRules aggregates table Y) (remainder aggregates table Y)
@@ -50,7 +57,14 @@ module _ (aggregates table : List ℕ) (Y : ℕ) where
       → TogetherPromise aggregates table Y before r after → ranksSay.Promise aggregates (ranking before) s first → TallyPromise aggregates table Y (placing before) t second
       → said r ≡ thenRuled (ranksSay.said s) (said t)
   says-as-two before after first second r s t h a b =
-      h .says ∙ two-ruled before ∙ (λ i. thenRuled (sym (a .says) i) (sym (b .says) i))
+      h .says ∙ ruled-as-two before ∙ (λ i. thenRuled (sym (a .says) i) (sym (b .says) i))
+
+  -- what it accepts and leaves is what each of the two promised, with the same buffers
+  pub as-two : (before after : Lent) (n : ℕ) → TogetherPromise aggregates table Y before (Accepted n) after
+      → ranksSay.Promise aggregates (ranking before) Ranks (ranking after) × TallyPromise aggregates table Y (placing before) (Accepted n) (placing after)
+  as-two before after n h =
+      let e = both-accept _ _ n (sym (h .says ∙ ruled-as-two before)) in
+      (record { says = sym (e .0); leaves = h .leaves .ranked }, record { says = sym (e .1); leaves = record { best = h .leaves .best; tallied = h .leaves .tallied } })
 
   -- and where it accepts gives their ranks, percentiles, bands and remainder, and leaves their tally, whatever each was lent
   pub one-for-two : (before after : Lent) (first₀ first : ranksSay.Lent) (second₀ second : TallyLent) (m n : ℕ)
@@ -70,3 +84,31 @@ module _ (aggregates table : List ℕ) (Y : ℕ) where
   -- ranks are 1 to N, tied students share one, a higher aggregate has a higher, and percentiles are nearest, halves up
   pub ranks-mean : (before after : Lent) (n : ℕ) → TogetherPromise aggregates table Y before (Accepted n) after → Meant aggregates (ranking after)
   ranks-mean before after n h = ranked-means aggregates (ranking after) (h .leaves .ranked)
+
+  -- and ranks and bands are of one list: the higher rank is in no lower band, and equal ranks are in one band
+  pub of-one-list : (before after : Lent) (n : ℕ) → TogetherPromise aggregates table Y before (Accepted n) after → (i j : ℕ) → i < length aggregates → j < length aggregates
+      → (getD (after .ranks) i 0 < getD (after .ranks) j 0 → getD (after .bands) i 0 ≤ getD (after .bands) j 0)
+      × (getD (after .ranks) i 0 ≡ getD (after .ranks) j 0 → getD (after .bands) i 0 ≡ getD (after .bands) j 0)
+  of-one-list before after n h i j l k = (λ r. higher r (decLt a b) (decLt b a), λ r. equal r (decLt a b) (decLt b a))
+    where
+      a : ℕ
+      a = getD aggregates i 0
+
+      b : ℕ
+      b = getD aggregates j 0
+
+      means : Meant aggregates (ranking after)
+      means = ranks-mean before after n h
+
+      keeps : Keeps aggregates table Y (after .bands)
+      keeps = h .leaves .best .keeps
+
+      higher : getD (after .ranks) i 0 < getD (after .ranks) j 0 → Dec (a < b) → Dec (b < a) → getD (after .bands) i 0 ≤ getD (after .bands) j 0
+      higher r (yes x) y = keeps .order i j l k x
+      higher r (no x) (yes y) = absurd (omega (arith, means .rises j i k l y))
+      higher r (no x) (no y) = absurd (omega (arith, means .ties i j l k (omega arith)))
+
+      equal : getD (after .ranks) i 0 ≡ getD (after .ranks) j 0 → Dec (a < b) → Dec (b < a) → getD (after .bands) i 0 ≡ getD (after .bands) j 0
+      equal r (yes x) y = absurd (omega (arith, means .rises i j l k x))
+      equal r (no x) (yes y) = absurd (omega (arith, means .rises j i k l y))
+      equal r (no x) (no y) = keeps .ties i j l k (omega arith)

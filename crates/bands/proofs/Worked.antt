@@ -18,7 +18,7 @@ use Rattle.bands.specs.Bands.{bandsOf}
 use Rattle.bands.specs.Promise.{ruling, Promise, Lent, togetherRuling, TogetherPromise}
 use Rattle.bands.specs.declared.Answer.{Answer}
 use Rattle.bands.specs.declared.Answer.the-variants.{Accepted, Refused}
-use Rattle.bands.proofs.ByHand.{three, pair, bands, remainders, ranked, tallies, full-within, within}
+use Rattle.bands.proofs.ByHand.{three, tiedBelow, bands, remainders, ranked, tallies, full-within, within}
 use Rattle.bands.proofs.Promised.{tells, owes, together-owes}
 
 -- Y=1, two different: both in 0.00
@@ -38,9 +38,9 @@ three-ruled a b c = rw (full-within, within .0) (ap accepted (remainders .0))
 abbrev pub ForThree : Lent → Type 0
 ForThree before = (length (before .ranks) ≡ 3) × (length (before .percentiles) ≡ 3) × (length (before .bands) ≡ 3) × (length (before .counts) ≡ tallyCount)
 
-pair-ruled : (before : Lent) → ForThree before → togetherRuling pair full 2000 before ≡ accepted 0
+tied-ruled : (before : Lent) → ForThree before → togetherRuling tiedBelow full 2000 before ≡ accepted 0
 unfolding full
-pair-ruled before l = rw (l .0, l .1, l .2, eq-eqb (length (before .counts)) tallyCount (l .3), full-within, within .3) (ap accepted (remainders .3))
+tied-ruled before l = rw (l .0, l .1, l .2, eq-eqb (length (before .counts)) tallyCount (l .3), full-within, within .3) (ap accepted (remainders .3))
 
 -- by direct count: no program that refuses them, writes no bands, puts all in 0.00, places the first alone, splits the tied or
 -- gives them the band of the first of them
@@ -57,12 +57,12 @@ only-two a b r after h =
 
 -- with the ranks: nor one that ranks the tied by their lower side, counts only the smaller, rounds a percentile down, writes ranks and no
 -- bands, or leaves an entry of the tally as a sum or as a band
-pub only-pair-together : (before : Lent) → ForThree before → (r : Answer) (after : Lent) → TogetherPromise pair full 2000 before r after
+pub only-tied-together : (before : Lent) → ForThree before → (r : Answer) (after : Lent) → TogetherPromise tiedBelow full 2000 before r after
     → (r ≡ Accepted 0) × (after .ranks ≡ 3 ∷ 2 ∷ 2 ∷ []) × (after .percentiles ≡ 100000 ∷ 66667 ∷ 66667 ∷ []) × (after .bands ≡ 1999 ∷ 1997 ∷ 1997 ∷ [])
     × (getD (after .counts) 40000 0 ≡ 1) × (getD (after .counts) 30000 0 ≡ 2) × (getD (after .counts) 35000 0 ≡ 0)
-only-pair-together before l r after h =
-    let o = only-as tells rules-is (together-owes pair full 2000 before) (pair-ruled before l) h in
-    let w = tally-exists pair in (
+only-tied-together before l r after h =
+    let o = only-as tells rules-is (together-owes tiedBelow full 2000 before) (tied-ruled before l) h in
+    let w = tally-exists tiedBelow in (
       o .0,
       ap (λ (l : Lent). l .ranks) (o .1) ∙ ranked .2,
       ap (λ (l : Lent). l .percentiles) (o .1) ∙ ranked .3,
@@ -77,13 +77,13 @@ zero-ruled : (a b c : ℕ) → ruling three full 0 (a ∷ b ∷ c ∷ []) ≡ re
 unfolding full
 zero-ruled a b c = refl
 
-zero-pair-ruled : (before : Lent) → ForThree before → togetherRuling pair full 0 before ≡ refused (9 at 0)
+zero-tied-ruled : (before : Lent) → ForThree before → togetherRuling tiedBelow full 0 before ≡ refused (9 at 0)
 unfolding full
-zero-pair-ruled before l = rw (l .0, l .1, l .2, eq-eqb (length (before .counts)) tallyCount (l .3)) refl
+zero-tied-ruled before l = rw (l .0, l .1, l .2, eq-eqb (length (before .counts)) tallyCount (l .3)) refl
 
 pub only-refused : (a b c : ℕ) (r : Answer) (after : List ℕ) → Promise three full 0 (a ∷ b ∷ c ∷ []) r after → (r ≡ Refused (WrongPopulation 0)) × (after ≡ a ∷ b ∷ c ∷ [])
 only-refused a b c r after h = only-as tells rules-is (owes three full 0 (a ∷ b ∷ c ∷ [])) (zero-ruled a b c) h
 
-pub only-refused-together : (before : Lent) → ForThree before → (r : Answer) (after : Lent) → TogetherPromise pair full 0 before r after
+pub only-refused-together : (before : Lent) → ForThree before → (r : Answer) (after : Lent) → TogetherPromise tiedBelow full 0 before r after
     → (r ≡ Refused (WrongPopulation 0)) × (after ≡ before)
-only-refused-together before l r after h = only-as tells rules-is (together-owes pair full 0 before) (zero-pair-ruled before l) h
+only-refused-together before l r after h = only-as tells rules-is (together-owes tiedBelow full 0 before) (zero-tied-ruled before l) h

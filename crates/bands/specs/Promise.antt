@@ -1,11 +1,8 @@
 -- What the two entries promise, for every input.
 use Prim.Native.Nat.{ℕ}
-use mathlib.Core.Bool.{not}
 use mathlib.Core.List.{List, [], _∷_, _++_}
 use lib.ListN.{length}
-use Rattle.paper.specs.Limits.{mostAggregate, mostPopulation, bandCount, mostEntry, mostStudents, mostTallied, tallyCount}
-use Rattle.paper.specs.Lists.{firstOver, someOver}
-use Rattle.paper.specs.Ranges.{within}
+use Rattle.paper.specs.Limits.{bandCount, mostStudents, mostTallied, tallyCount}
 use Rattle.paper.specs.Rulings.{Outcome, accepted, refused, Rule, _⇒_, _at_, judged}
 use Rattle.paper.specs.Refusals.{fault}
 use Rattle.paper.specs.Words.{_<?_, _≠?_}
@@ -13,6 +10,7 @@ use Rattle.paper.specs.Promises.{Promised, Is, answered, filled}
 use Rattle.ranks.specs.Ranking.{ranksOf, percentilesOf}
 use Rattle.ranks.specs.Promise.{Ranked, Lent as RanksLent, lent as ranksLent}
 use Rattle.tally.specs.Counts.{Tallied, tallyOf}
+use Rattle.tally.specs.Rules.{tableRules, aggregateRules}
 use Rattle.bands.specs.Placing.{BestPlacement, remainder}
 use Rattle.bands.specs.Bands.{bandsOf}
 use Rattle.bands.specs.declared.Answer.{Answer}
@@ -45,18 +43,7 @@ lentRules students ranks percentiles counts =
     ∷ countsRule counts
     ∷ []
 
--- 9: Y zero or over 1000000; 13: an entry over 1000000
-abbrev pub tableRules : List ℕ → ℕ → List Rule
-tableRules table Y =
-    not (within 1 mostPopulation Y) ⇒ 9 at 0
-    ∷ someOver mostEntry table ⇒ 13 at firstOver mostEntry table
-    ∷ []
-
--- 12: an aggregate over 50000
-abbrev pub aggregateRules : List ℕ → List Rule
-aggregateRules aggregates = someOver mostAggregate aggregates ⇒ 12 at firstOver mostAggregate aggregates ∷ []
-
--- 9, 13 and 12, in this order
+-- 9: Y zero or over 1000000; 13: an entry over 1000000; 12: an aggregate over 50000; in this order
 abbrev pub cohortRules : List ℕ → List ℕ → ℕ → List Rule
 cohortRules aggregates table Y = tableRules table Y ++ aggregateRules aggregates
 

@@ -36,7 +36,7 @@ pub record Placed (aggregates table : List ℕ) (Y : ℕ) (after : TallyLent) : 
 abbrev pub TallyPromise : List ℕ → List ℕ → ℕ → TallyLent → Answer → TallyLent → Type 0
 TallyPromise aggregates table Y before r after = Promised said (Is (tallyRuling aggregates table Y before)) (λ n. Placed aggregates table Y) before r after
 
--- the four buffers of the one call: those of the second of the two
+-- those of the one call's four buffers that the second of the two writes
 abbrev pub placing : Lent → TallyLent
 placing buffers = tallyLent (buffers .bands) (buffers .counts)
 

@@ -3,12 +3,12 @@ use mathlib.Core.Path.{_≡_, refl}
 use mathlib.Core.List.{[], _∷_}
 use Rattle.paper.specs.Lists.{sum, sumOf, listed}
 use Rattle.tally.specs.Places.{places, bandUpTo}
-use Rattle.tally.specs.InnerTally.{sumsTo, stepsOf, sumsOf, bandsBy, remainderBy}
+use Rattle.tally.specs.InnerTally.{sumsTo, stepsOf, sumsFrom, bandsBy, remainderBy}
 use Rattle.tally.specs.Examples.{full}
 
 -- one student, two above and one above them: C is 4, 3 and 1
-pub summed : sumsOf (1 ∷ 2 ∷ 1 ∷ []) ≡ 4 ∷ 3 ∷ 1 ∷ []
-unfolding sumsOf listed sumOf
+pub summed : sumsFrom (1 ∷ 2 ∷ 1 ∷ []) ≡ 4 ∷ 3 ∷ 1 ∷ []
+unfolding sumsFrom listed sumOf
 summed = refl
 
 -- how many have at most each: 1, 3 and 4; where nobody has the first or the middle one; taken apart the counts again; none

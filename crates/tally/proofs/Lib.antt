@@ -1,5 +1,6 @@
 pub mod ByHand
 pub mod ByHandPlaces
+pub mod ByHandRules
 pub mod Counting
 pub mod Reaching
 pub mod Tallies

@@ -13,7 +13,7 @@ use Rattle.paper.proofs.Listing.{sum-step, is-listed, length-listed, at-list, s
 use Rattle.tally.specs.Counts.{atLeast, numberAt, Tallied, tallyOf}
 use Rattle.tally.specs.Places.{bandOf}
 use Rattle.tally.specs.Inner.{Aggregates}
-use Rattle.tally.specs.InnerTally.{sumsTo, before, stepsOf, Rising, sumsOf, bandsBy}
+use Rattle.tally.specs.InnerTally.{sumsTo, previous, stepsOf, Rising, sumsFrom, bandsBy}
 use Rattle.tally.proofs.Counting.{at-within, at-none, at-split}
 use Rattle.tally.proofs.Reaching.{band-highest}
 
@@ -28,8 +28,8 @@ sum-parts xs (suc n) l =
 pub sum-to-most : (xs : List ℕ) (n : ℕ) → n ≤ length xs → sum n (λ j. getD xs j 0) ≤ sumOf xs
 sum-to-most xs n l = omega (arith, sum-parts xs n l)
 
-pub before-next : (sums : List ℕ) (t : ℕ) → before sums (t + 1) ≡ getD sums t 0
-before-next sums t = rw add-one refl
+pub previous-next : (sums : List ℕ) (t : ℕ) → previous sums (t + 1) ≡ getD sums t 0
+previous-next sums t = rw add-one refl
 
 -- the sums up to each entry, which rise
 module _ (counts : List ℕ) where
@@ -42,7 +42,7 @@ module _ (counts : List ℕ) where
   sums-to-at t l = at-list (length counts) (λ t. sum (t + 1) (λ j. getD counts j 0)) t l
 
   -- each has its entry more than the one before it
-  sums-to-step : (t : ℕ) → t < length counts → getD (sumsTo counts) t 0 ≡ before (sumsTo counts) t + getD counts t 0
+  sums-to-step : (t : ℕ) → t < length counts → getD (sumsTo counts) t 0 ≡ previous (sumsTo counts) t + getD counts t 0
   unfolding sum
   sums-to-step zero l = sums-to-at zero l
   sums-to-step (suc t) l =
@@ -56,27 +56,27 @@ module _ (counts : List ℕ) where
   pub parted-back : stepsOf (sumsTo counts) ≡ counts
   unfolding stepsOf
   parted-back =
-      sym (is-listed counts (length (sumsTo counts)) (λ t. getD (sumsTo counts) t 0 - before (sumsTo counts) t) (sym sums-to-long)
+      sym (is-listed counts (length (sumsTo counts)) (λ t. getD (sumsTo counts) t 0 - previous (sumsTo counts) t) (sym sums-to-long)
       (λ t l. omega (arith, sums-to-step t (omega (arith, sums-to-long)))))
 
 module _ (counts : List ℕ) where
-  pub sums-long : length (sumsOf counts) ≡ length counts
-  unfolding sumsOf
+  pub sums-long : length (sumsFrom counts) ≡ length counts
+  unfolding sumsFrom
   sums-long = length-listed 0 (length counts) (λ t. sumOf (drop t counts))
 
-  pub sums-at : (t : ℕ) → getD (sumsOf counts) t 0 ≡ sumOf (drop t counts)
-  unfolding sumsOf
+  pub sums-at : (t : ℕ) → getD (sumsFrom counts) t 0 ≡ sumOf (drop t counts)
+  unfolding sumsFrom
   sums-at t = go (decLt t (length counts))
     where
-      go : Dec (t < length counts) → getD (sumsOf counts) t 0 ≡ sumOf (drop t counts)
+      go : Dec (t < length counts) → getD (sumsFrom counts) t 0 ≡ sumOf (drop t counts)
       go (yes l) = at-list (length counts) (λ t. sumOf (drop t counts)) t l
-      go (no l) = let m : length (sumsOf counts) ≤ t = omega (arith, sums-long) in List·getD-eq-default (sumsOf counts) 0 m ∙ sym (sumOf-end counts t (omega arith))
+      go (no l) = let m : length (sumsFrom counts) ≤ t = omega (arith, sums-long) in List·getD-eq-default (sumsFrom counts) 0 m ∙ sym (sumOf-end counts t (omega arith))
 
   -- from the top down each adds its entry, and none is over the total
-  pub sums-back : (t : ℕ) → 0 < t → t ≤ length counts → getD (sumsOf counts) (t - 1) 0 ≡ getD counts (t - 1) 0 + getD (sumsOf counts) t 0
+  pub sums-back : (t : ℕ) → 0 < t → t ≤ length counts → getD (sumsFrom counts) (t - 1) 0 ≡ getD counts (t - 1) 0 + getD (sumsFrom counts) t 0
   sums-back t l m = omega (arith, sums-at (t - 1), sums-at t, sumOf-back counts t l m)
 
-  pub sums-most : (t : ℕ) → getD (sumsOf counts) t 0 ≤ sumOf counts
+  pub sums-most : (t : ℕ) → getD (sumsFrom counts) t 0 ≤ sumOf counts
   sums-most t = omega (arith, sums-at t, sumOf-falls counts 0 t (omega arith))
 
 module _ (table : List ℕ) (Y : ℕ) (cs : List ℕ) where
@@ -115,7 +115,7 @@ module _ (xs : List ℕ) (w : Aggregates xs) where
       go (yes l) ih = omega (arith, sumOf-step (tallyOf xs) t (omega (arith, tally-exists xs .long)), tally-exists xs .each t l, at-split xs t)
       go (no l) ih = sumOf-end (tallyOf xs) t (omega (arith, tally-exists xs .long)) ∙ sym (at-none xs t (λ i m. omega (arith, w .each i)))
 
-  pub tally-sums : (t : ℕ) → getD (sumsOf (tallyOf xs)) t 0 ≡ atLeast xs t
+  pub tally-sums : (t : ℕ) → getD (sumsFrom (tallyOf xs)) t 0 ≡ atLeast xs t
   tally-sums t = sums-at (tallyOf xs) t ∙ total-from tallyCount t (omega arith)
 
   pub total-few : sumOf (tallyOf xs) ≤ mostTallied

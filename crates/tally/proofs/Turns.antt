@@ -18,10 +18,10 @@ use Rattle.tally.specs.Counts.{numberAt, tallyOf}
 use Rattle.tally.specs.Places.{onePlace, bandOf}
 use Rattle.tally.specs.Inner.{Sized}
 use Rattle.tally.specs.InnerSearch.{Stands, SearchAt, Reaches}
-use Rattle.tally.specs.InnerTally.{sumsTo, before, stepsOf, Rising, sumsOf, bandsBy, leftAt, remainderBy}
+use Rattle.tally.specs.InnerTally.{sumsTo, previous, stepsOf, Rising, sumsFrom, bandsBy, leftAt, remainderBy}
 use Rattle.tally.proofs.Counting.{count-next}
 use Rattle.tally.proofs.Reaching.{search-top, search-for, search-on, left-is}
-use Rattle.tally.proofs.Tallies.{sum-to-most, before-next, sums-long, sums-at, sums-back, sums-most}
+use Rattle.tally.proofs.Tallies.{sum-to-most, previous-next, sums-long, sums-at, sums-back, sums-most}
 
 -- one more student counted
 pub tally-next : (xs counts : List ℕ) (i a : ℕ) → a ≡ getD xs i 0 → a < length counts
@@ -83,21 +83,21 @@ summed-end w l = all-filled (w .up .filled) l
 
 -- sums are taken apart below t, with s the one before it
 pub record Parted (sums : List ℕ) (t : ℕ) (counts : List ℕ) (s : ℕ) : Type 0 where
-  pub up : Up sums (λ t. getD sums t 0 - before sums t) t counts
-  pub before-is : s ≡ before sums t
+  pub up : Up sums (λ t. getD sums t 0 - previous sums t) t counts
+  pub previous-is : s ≡ previous sums t
 
 pub parted-start : (sums : List ℕ) → Parted sums 0 sums 0
-parted-start sums = record { up = up-start sums _; before-is = refl }
+parted-start sums = record { up = up-start sums _; previous-is = refl }
 
 module _ {sums : List ℕ} {t : ℕ} {counts : List ℕ} {s : ℕ} (w : Parted sums t counts s) (l : t < length sums) where
   pub parted-least : Rising sums → s ≤ getD counts t 0
-  parted-least h = omega (arith, w .before-is, w .up .rest t (le-refl t), h t l)
+  parted-least h = omega (arith, w .previous-is, w .up .rest t (le-refl t), h t l)
 
   pub parted-next : Parted sums (t + 1) (set counts t (getD counts t 0 - s)) (getD counts t 0)
   parted-next =
       record {
-        up = up-next _ (w .up) l (omega (arith, w .before-is, w .up .rest t (le-refl t)));
-        before-is = w .up .rest t (le-refl t) ∙ sym (before-next sums t);
+        up = up-next _ (w .up) l (omega (arith, w .previous-is, w .up .rest t (le-refl t)));
+        previous-is = w .up .rest t (le-refl t) ∙ sym (previous-next sums t);
       }
 
 pub parted-end : {sums : List ℕ} {t : ℕ} {counts : List ℕ} {s : ℕ} → Parted sums t counts s → length sums ≤ t → counts ≡ stepsOf sums
@@ -131,10 +131,10 @@ down-end {before} {f} {t} {xs} z d = is-listed xs (length before) f (d .long) (�
 
 -- the walk over a tally has come down to t: the band reached, C, and the students left over
 pub record Walked (table : List ℕ) (Y : ℕ) (tally : List ℕ) (t : ℕ) (counts : List ℕ) (k s room c left : ℕ) : Type 0 where
-  pub down : Down tally (λ t. bandOf table Y (getD (sumsOf tally) t 0)) t counts
+  pub down : Down tally (λ t. bandOf table Y (getD (sumsFrom tally) t 0)) t counts
   pub at : SearchAt table Y c k s room
-  pub c-is : c ≡ getD (sumsOf tally) t 0
-  pub left-at : left + sum t (leftAt table Y (sumsOf tally)) ≡ sum (length tally) (leftAt table Y (sumsOf tally))
+  pub c-is : c ≡ getD (sumsFrom tally) t 0
+  pub left-at : left + sum t (leftAt table Y (sumsFrom tally)) ≡ sum (length tally) (leftAt table Y (sumsFrom tally))
   pub few : left ≤ c
 
 pub walk-start : {table : List ℕ} {Y : ℕ} (tally : List ℕ) {k s room : ℕ} → Sized table → Y ≤ mostPopulation → k ≡ topBand → Stands table Y k s room
@@ -150,7 +150,7 @@ walk-start tally z y e f = record {
 module _ {table : List ℕ} {Y : ℕ} {tally : List ℕ} {t : ℕ} {counts : List ℕ} {k s room c left : ℕ} (w : Walked table Y tally t counts k s room c left) where
   module _ (l : 0 < t) where
     -- C with the students here
-    c-next : c + getD counts (t - 1) 0 ≡ getD (sumsOf tally) (t - 1) 0
+    c-next : c + getD counts (t - 1) 0 ≡ getD (sumsFrom tally) (t - 1) 0
     c-next = omega (arith, w .c-is, w .down .below (t - 1) (omega arith), sums-back tally t l (w .down .within))
 
     pub c-most : c + getD counts (t - 1) 0 ≤ sumOf tally
@@ -166,7 +166,7 @@ module _ {table : List ℕ} {Y : ℕ} {tally : List ℕ} {t : ℕ} {counts : Lis
       down = down-next l (w .down) (h .band-is ∙ ap (bandOf table Y) c-next);
       at = search-on h (w .at .sized) (w .at .people);
       c-is = c-next;
-      left-at = omega (arith, here, sum-back t (leftAt table Y (sumsOf tally)) l, w .left-at);
+      left-at = omega (arith, here, sum-back t (leftAt table Y (sumsFrom tally)) l, w .left-at);
       few = omega (arith, w .few, left-is h (getD counts (t - 1) 0) r e .1);
     }
       where
@@ -176,11 +176,11 @@ module _ {table : List ℕ} {Y : ℕ} {tally : List ℕ} {t : ℕ} {counts : Lis
         gone : c + getD counts (t - 1) 0 - c ≡ getD counts (t - 1) 0
         gone = omega arith
 
-        here : r ≡ leftAt table Y (sumsOf tally) (t - 1)
+        here : r ≡ leftAt table Y (sumsFrom tally) (t - 1)
         here = rw (next, ← c-next, ← (w .c-is), gone) (left-is h (getD counts (t - 1) 0) r e .0)
 
-  pub walk-end : t ≡ 0 → (left ≡ remainderBy table Y (sumsOf tally)) × (counts ≡ bandsBy table Y (sumsOf tally))
+  pub walk-end : t ≡ 0 → (left ≡ remainderBy table Y (sumsFrom tally)) × (counts ≡ bandsBy table Y (sumsFrom tally))
   unfolding remainderBy bandsBy
   walk-end z =
       rw (sums-long tally)
-      (omega (arith, w .left-at, sum-none (leftAt table Y (sumsOf tally)), rw z at (w .left-at)), down-end z (w .down))
+      (omega (arith, w .left-at, sum-none (leftAt table Y (sumsFrom tally)), rw z at (w .left-at)), down-end z (w .down))

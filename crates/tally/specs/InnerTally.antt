@@ -11,20 +11,20 @@ unfoldable pub sumsTo : List ℕ → List ℕ
 sumsTo counts = listed 0 (length counts) (λ t. sum (t + 1) (λ j. getD counts j 0))
 
 -- the entry before t, 0 before the first; and what each entry has more than the one before it
-abbrev pub before : List ℕ → ℕ → ℕ
-before sums zero = 0
-before sums (suc t) = getD sums t 0
+abbrev pub previous : List ℕ → ℕ → ℕ
+previous sums zero = 0
+previous sums (suc t) = getD sums t 0
 
 unfoldable pub stepsOf : List ℕ → List ℕ
-stepsOf sums = listed 0 (length sums) (λ t. getD sums t 0 - before sums t)
+stepsOf sums = listed 0 (length sums) (λ t. getD sums t 0 - previous sums t)
 
 -- what taking sums apart asks: none is less than the one before it
 abbrev pub Rising : List ℕ → Type 0
-Rising sums = (t : ℕ) → t < length sums → before sums t ≤ getD sums t 0
+Rising sums = (t : ℕ) → t < length sums → previous sums t ≤ getD sums t 0
 
 -- for each entry of a list the sum from it on: of a tally, C
-unfoldable pub sumsOf : List ℕ → List ℕ
-sumsOf counts = listed 0 (length counts) (λ t. sumOf (drop t counts))
+unfoldable pub sumsFrom : List ℕ → List ℕ
+sumsFrom counts = listed 0 (length counts) (λ t. sumOf (drop t counts))
 
 -- for each C its band
 unfoldable pub bandsBy : List ℕ → ℕ → List ℕ → List ℕ

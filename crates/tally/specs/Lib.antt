@@ -1,5 +1,6 @@
 pub mod Counts
 pub mod Places
+pub mod Rules
 pub mod Inner
 pub mod InnerSearch
 pub mod InnerTally

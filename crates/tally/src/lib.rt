@@ -6,8 +6,9 @@ ghost use Rattle.paper.specs.Limits.{mostTallied};
 ghost use Rattle.paper.specs.Lists.{sumOf};
 ghost use Rattle.tally.specs.Counts.{tallyOf};
 ghost use Rattle.tally.specs.Inner.{Countable, Walkable};
-ghost use Rattle.tally.specs.InnerTally.{sumsTo, stepsOf, Rising, sumsOf, bandsBy, remainderBy};
+ghost use Rattle.tally.specs.InnerTally.{sumsTo, stepsOf, Rising, sumsFrom, bandsBy, remainderBy};
 
+pub mod screening;
 pub mod search;
 
 // All 0.
@@ -68,7 +69,7 @@ pub fn take_apart(sums: &mut [u32])
 // search where it stopped. Answers the remainder.
 pub fn walk(table: &[u32], population: u32, counts: &mut [u32]) -> usize
     requires { ⌜ Walkable (now table) population (now counts) ⌝ }
-    ensures { λ r. ⌜ (r ≡ remainderBy (now (table .entry)) population (sumsOf (now (counts .entry)))) × (now (counts .exit) ≡ bandsBy (now (table .entry)) population (sumsOf (now (counts .entry)))) ⌝ }
+    ensures { λ r. ⌜ (r ≡ remainderBy (now (table .entry)) population (sumsFrom (now (counts .entry)))) × (now (counts .exit) ≡ bandsBy (now (table .entry)) population (sumsFrom (now (counts .entry)))) ⌝ }
 {
     let mut reached = search::top(table, population);
     let mut c: u32 = 0;

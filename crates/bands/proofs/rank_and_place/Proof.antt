@@ -36,6 +36,10 @@ module _ (c : tie.After-together) where
   abbrev rules : List Rule
   rules = togetherRules aggregates table people (length (buffers .ranks)) (length (buffers .percentiles)) (length (buffers .bands)) (length (buffers .counts))
 
+-- where the buffers are filled
+abbrev filled : tie.After-slice-known8 → tie.After-fill
+filled c = c .before .before .before .before .before .before .before .before
+
 refused-here : (c : tie.After-known-told) → let d = c .before .before .before in
     TogetherPromise (aggregates d) (table d) (people d) (buffers d) (Refused (c .before .screened .given .0 .0)) (buffers d)
 refused-here c =
@@ -61,20 +65,20 @@ fill-requires c κs =
     together-ready (aggregates d) (table d) (people d) (buffers d) (screened-kept (rules d) (d .together .ensures) (e .enum-told .given .1))
 
 same-length : tie.Need-same-length
-same-length c = search needs
+same-length c = filled c .fill .kept .1 .1 .1 .0
 
 same-length-2 : tie.Need-same-length-2
-same-length-2 c = search needs
+same-length-2 c = filled c .fill .kept .1 .1 .1 .1 .0
 
 same-length-3 : tie.Need-same-length-3
-same-length-3 c = search needs
+same-length-3 c = filled c .fill .kept .1 .1 .1 .1 .1 .0
 
 same-length-4 : tie.Need-same-length-4
-same-length-4 c = search needs
+same-length-4 c = filled c .fill .kept .1 .1 .1 .1 .1 .1 .0
 
 returns-2 : tie.Need-returns-2
 returns-2 c =
-    let f = c .before .before .before .before .before .before .before .before in
+    let f = filled c in
     let e = f .before .before .before .before .before in
     let d = e .before .before in
     let h = f .fill .ensures in

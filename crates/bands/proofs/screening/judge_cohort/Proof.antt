@@ -1,4 +1,4 @@
-use Rattle.bands.specs.Promise.{tableRules, aggregateRules}
+use Rattle.tally.specs.Rules.{tableRules, aggregateRules}
 use Rattle.paper.proofs.Screens.{screened-first, screened-next}
 use Rattle.paper.specs.Rulings.{Rule}
 use mathlib.Core.List.{List}
@@ -6,8 +6,8 @@ use mathlib.Core.Path.{sym, _∙_}
 use borrow.Author.Needs.{needs}
 use Rattle.bands.proofs.screening.judge_cohort.Statement.{statement}
 use Rattle.bands.proofs.screening.judge_cohort.Tie as tie
-use Rattle.bands.proofs.screening.judge_aggregates.Reads as judge-aggregates-reads
-use Rattle.bands.proofs.screening.judge_table.Reads as judge-table-reads
+use Rattle.tally.proofs.screening.judge_aggregates.Reads as judge-aggregates-reads
+use Rattle.tally.proofs.screening.judge_table.Reads as judge-table-reads
 
 -- the two lists of rules, where Y and the table are judged
 abbrev tabling : tie.After-judge-table → List Rule

@@ -4,7 +4,7 @@ use mathlib.Core.List.{List}
 use lib.ListN.{length}
 use Rattle.paper.specs.Limits.{tallyCount}
 use Rattle.tally.specs.Counts.{tallyOf}
-use Rattle.tally.specs.InnerTally.{sumsOf, bandsBy, remainderBy}
+use Rattle.tally.specs.InnerTally.{sumsFrom, bandsBy, remainderBy}
 use Rattle.tally.proofs.Tallies.{walked-within, tally-exists, total-few}
 use Rattle.bands.specs.Placing.{remainder}
 use Rattle.bands.specs.Bands.{bandsOf}
@@ -43,13 +43,13 @@ module _ (c : tie.After-walk) where
   abbrev people : ℕ
   people = begun c .args .population
 
-  walk-bands : c .walk .last .1 .1 .0 ≡ bandsBy table people (sumsOf (tallyOf aggregates))
-  walk-bands = c .walk .ensures .1 ∙ ap (λ (l : List ℕ). bandsBy table people (sumsOf l)) (begun c .pre .tallied)
+  walk-bands : c .walk .last .1 .1 .0 ≡ bandsBy table people (sumsFrom (tallyOf aggregates))
+  walk-bands = c .walk .ensures .1 ∙ ap (λ (l : List ℕ). bandsBy table people (sumsFrom l)) (begun c .pre .tallied)
 
   left : c .walk .result ≡ remainder aggregates table people
   left =
       c .walk .ensures .0
-      ∙ ap (λ (l : List ℕ). remainderBy table people (sumsOf l)) (begun c .pre .tallied)
+      ∙ ap (λ (l : List ℕ). remainderBy table people (sumsFrom l)) (begun c .pre .tallied)
       ∙ remainder-walked aggregates (begun c .pre .ready .students) table people
 
   -- the counts keep their length
@@ -70,7 +70,7 @@ band-each-requires : tie.Need-band-each-requires
 band-each-requires c κs =
     let d = c .before .before .before .before in
     let h = begun d .pre .ready in
-    record { students = h .students; long = walk-long d; within = rw (walk-bands d) (walked-within (table d) (people d) (sumsOf (tallyOf (aggregates d)))); lent = h .lent }
+    record { students = h .students; long = walk-long d; within = rw (walk-bands d) (walked-within (table d) (people d) (sumsFrom (tallyOf (aggregates d)))); lent = h .lent }
 
 count-requires : tie.Need-count-requires
 count-requires c κs =

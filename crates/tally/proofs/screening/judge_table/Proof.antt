@@ -3,8 +3,8 @@ use Rattle.paper.specs.Limits.{mostPopulation}
 use borrow.Author.Tests.{lt-ltb, le-ltb}
 use mathlib.Core.Path.{_≡_, refl, ap, _∙_}
 use borrow.Author.Needs.{needs}
-use Rattle.bands.proofs.screening.judge_table.Statement.{statement}
-use Rattle.bands.proofs.screening.judge_table.Tie as tie
+use Rattle.tally.proofs.screening.judge_table.Statement.{statement}
+use Rattle.tally.proofs.screening.judge_table.Tie as tie
 use Rattle.paper.proofs.bounds.first_over.Reads as first-over-reads
 use Rattle.paper.proofs.ranges.within.Reads as within-reads
 use Rattle.paper.proofs.widening.wide32.Reads as wide32-reads

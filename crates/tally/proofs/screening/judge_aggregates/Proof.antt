@@ -1,8 +1,8 @@
 use borrow.Author.Tests.{lt-ltb, le-ltb}
 use mathlib.Core.Path.{refl}
 use borrow.Author.Needs.{needs}
-use Rattle.bands.proofs.screening.judge_aggregates.Statement.{statement}
-use Rattle.bands.proofs.screening.judge_aggregates.Tie as tie
+use Rattle.tally.proofs.screening.judge_aggregates.Statement.{statement}
+use Rattle.tally.proofs.screening.judge_aggregates.Tie as tie
 use Rattle.paper.proofs.bounds.first_over.Reads as first-over-reads
 
 first-over-requires : tie.Need-first-over-requires
