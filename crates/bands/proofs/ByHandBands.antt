@@ -45,3 +45,8 @@ no-places = (refl, refl)
 pub ends : (bandsOf (50000 ∷ []) full 2000 ≡ 1999 ∷ []) × (bandsOf (0 ∷ []) full 2000 ≡ 1999 ∷ []) × (bandsOf [] full 1 ≡ []) × (remainder [] full 1 ≡ 0)
 unfolding bandsOf remainder listed bandUpTo places full count sum sumOf
 ends = (refl, refl, refl, refl)
+
+-- one student alone: left over by one millionth too little, and not where equality fits
+pub alone : (remainder (500 ∷ []) (999999 ∷ 0 ∷ []) 2000 ≡ 1) × (remainder (500 ∷ []) (1000000 ∷ 0 ∷ []) 2000 ≡ 0) × (remainder (500 ∷ []) (0 ∷ []) 1000000 ≡ 1)
+unfolding remainder places count sum sumOf
+alone = (refl, refl, refl)

@@ -2,13 +2,14 @@
 use Prim.Native.Nat.{ℕ, _≤_, _<_}
 use native.Mathlib.Omega.{arith}
 use native.Mathlib.Decide.{decLt}
-use mathlib.Core.Path.{_≡_, refl, sym, _∙_}
+use mathlib.Core.Path.{_≡_, refl, sym, ap, _∙_}
 use mathlib.Core.Bool.{Bool, true, false, not}
 use mathlib.Core.List.{List, [], _∷_}
 use lib.ListN.{length, getD}
 use lib.Dec.{ltb, eqb}
 use Rattle.paper.specs.Limits.{bandCount, mostTallied, tallyCount}
 use Rattle.paper.specs.Rulings.{Outcome, accepted, refused, Rule, _⇒_, _at_, judged}
+use Rattle.paper.specs.declared.refusal.Refusal.{Refusal}
 use Rattle.paper.proofs.Ruled.{given-values}
 use Rattle.ranks.specs.Meaning.{Meant}
 use Rattle.ranks.specs.Promise as ranksSay
@@ -19,9 +20,9 @@ use Rattle.ranks.proofs.Means.{ranked-means}
 use Rattle.tally.proofs.Tallies.{tally-once}
 use Rattle.bands.specs.Placing.{Keeps, remainder}
 use Rattle.bands.specs.Promise.{said, cohortRules, Lent, ranking, togetherRules, togetherRuling, TogetherPromise}
-use Rattle.bands.specs.TwoCalls.{TallyLent, tallyLent, tallyRules, TallyPromise, placing, thenRuled, twoRuling}
+use Rattle.bands.specs.TwoCalls.{TallyLent, tallyLent, tallyRules, tallyRuling, TallyPromise, placing, thenRuled, twoRuling}
 use Rattle.bands.specs.declared.Answer.{Answer}
-use Rattle.bands.specs.declared.Answer.the-variants.{Accepted}
+use Rattle.bands.specs.declared.Answer.the-variants.{Accepted, Refused}
 use Rattle.bands.proofs.Placed.{best-once}
 
 -- its refusals are those of the two calls with the same buffers, the second made where the first accepts
@@ -65,6 +66,16 @@ module _ (aggregates table : List ℕ) (Y : ℕ) where
   as-two before after n h =
       let e = both-accept _ _ n (sym (h .says ∙ ruled-as-two before)) in
       (record { says = sym (e .0); leaves = h .leaves .ranked }, record { says = sym (e .1); leaves = record { best = h .leaves .best; tallied = h .leaves .tallied } })
+
+  -- where it refuses and the first of the two accepts, the second refuses with the same number and place, and leaves its buffers as they were
+  pub refused-as-two : (before after : Lent) (x : Refusal) → TogetherPromise aggregates table Y before (Refused x) after → ranksSay.ruling aggregates (ranking before) ≡ accepted tt
+      → TallyPromise aggregates table Y (placing before) (Refused x) (placing after)
+  refused-as-two before after x h e =
+      record { says = h .says ∙ ruled-as-two before ∙ (λ i. thenRuled (e i) (tallyRuling aggregates table Y (placing before))); leaves = ap placing (h .leaves) }
+
+  pub left-as-two : (before after : Lent) (second : TallyLent) (x y : Refusal) → TogetherPromise aggregates table Y before (Refused x) after
+      → TallyPromise aggregates table Y (placing before) (Refused y) second → placing after ≡ second
+  left-as-two before after second x y h b = ap placing (h .leaves) ∙ sym (b .leaves)
 
   -- and where it accepts gives their ranks, percentiles, bands and remainder, and leaves their tally, whatever each was lent
   pub one-for-two : (before after : Lent) (first₀ first : ranksSay.Lent) (second₀ second : TallyLent) (m n : ℕ)

@@ -34,9 +34,10 @@ use Rattle.bands.specs.declared.Answer.{Answer as BandsAnswer}
 use Rattle.bands.specs.Placing.{remainder}
 use Rattle.bands.specs.Bands.{bandsOf}
 use Rattle.bands.specs.Promise.{directRules, togetherRules, Lent, said as saidBands}
+use Rattle.bands.specs.Given.{LentFor}
 use Rattle.bands.proofs.ByHand.{full-within}
 use Rattle.bands.proofs.Promised.{tells, owes, together-owes}
-use Rattle.worked.specs.Called.{Rated, LentFor, Placed, alone, withTable, directly, ranked}
+use Rattle.worked.specs.Called.{Rated, Placed, alone, withTable, directly, ranked}
 use Rattle.worked.specs.Example.{counted, atRate, atarOf, Example, best-set_by_is_, figures_give_, rate_band_has_, aggregates_by_of_get_leaving_, Holds, All}
 use Rattle.worked.specs.Worked.{examples}
 
@@ -54,7 +55,7 @@ rated q o r c (alone h) = h .says ∙ c
 rated q o r c (withTable before after l h) = h .says ∙ table-ruled q before l ∙ c
 
 -- whom the direct count accepts the call with the ranks accepts too
-taken : (xs table : List ℕ) (Y : ℕ) (before : Lent) → LentFor xs before → Unbroken (directRules xs table Y (length xs))
+taken : (xs table : List ℕ) (Y : ℕ) (before : Lent) → LentFor (length xs) before → Unbroken (directRules xs table Y (length xs))
     → Unbroken (togetherRules xs table Y (length (before .ranks)) (length (before .percentiles)) (length (before .bands)) (length (before .counts)))
 taken xs table Y before l k =
     rw (l .ranks, l .percentiles, l .bands, l .counts, eq-eqb (length xs) (length xs) refl)

@@ -3,10 +3,11 @@ use Prim.Native.Nat.{ℕ}
 use mathlib.Core.Path.{_≡_}
 use mathlib.Core.List.{List}
 use lib.ListN.{length}
-use Rattle.paper.specs.Limits.{bandCount, tallyCount}
+use Rattle.paper.specs.Limits.{bandCount}
 use Rattle.curve.specs.Promise.{PopulationPromise, Promise as CurvePromise}
 use Rattle.curve.specs.declared.Answer.{Answer as CurveAnswer}
 use Rattle.bands.specs.Promise.{Promise as BandsPromise, Lent, lent, TogetherPromise}
+use Rattle.bands.specs.Given.{LentFor}
 use Rattle.bands.specs.declared.Answer.{Answer as BandsAnswer}
 
 -- Y and r of ten figures: alone, or with the table
@@ -14,15 +15,8 @@ pub data Rated (figures : List ℕ) (r : CurveAnswer) : Type 0 where
   alone : PopulationPromise figures r → Rated figures r
   withTable : (before after : List ℕ) → length before ≡ bandCount → CurvePromise figures before r after → Rated figures r
 
--- buffers lent to the call with the ranks: as many ranks, percentiles and bands as aggregates, and 50001 counts
-pub record LentFor (aggregates : List ℕ) (before : Lent) : Type 0 where
-  pub ranks : length (before .ranks) ≡ length aggregates
-  pub percentiles : length (before .percentiles) ≡ length aggregates
-  pub bands : length (before .bands) ≡ length aggregates
-  pub counts : length (before .counts) ≡ tallyCount
-
 -- bands and remainder: by direct count, or in one call with the ranks
 pub data Placed (aggregates table : List ℕ) (Y : ℕ) (r : BandsAnswer) (bands : List ℕ) : Type 0 where
   directly : (before : List ℕ) → length before ≡ length aggregates → BandsPromise aggregates table Y before r bands → Placed aggregates table Y r bands
-  ranked : (before : Lent) (ranks percentiles counts : List ℕ) → LentFor aggregates before
+  ranked : (before : Lent) (ranks percentiles counts : List ℕ) → LentFor (length aggregates) before
       → TogetherPromise aggregates table Y before r (lent ranks percentiles bands counts) → Placed aggregates table Y r bands
