@@ -1,5 +1,6 @@
 -- The paper's values that are worked by hand, computed from the definitions.
 use Prim.Native.Nat.{ℕ, zero, suc, _≤_, _<_}
+use native.Mathlib.Nat.{le-refl}
 use native.Mathlib.Omega.{arith}
 use mathlib.Core.Path.{_≡_, refl}
 use mathlib.Core.Bool.{false}
@@ -54,11 +55,15 @@ faulty = set (set full 3 1000001) 7 1000001
 abbrev pub high : List ℕ
 high = 50000 ∷ 50001 ∷ []
 
+-- the same entry in every band
+pub flat-within : (v : ℕ) → v ≤ mostEntry → someOver mostEntry (replicate bandCount v) ≡ false
+flat-within v m =
+    none-has bandCount (λ i. ltb mostEntry (getD (replicate bandCount v) i 0))
+    (λ i l. let e : getD (replicate bandCount v) i 0 ≤ mostEntry = omega (arith, getD-replicate {A = ℕ} bandCount i v 0 l) in le-ltb mostEntry (getD (replicate bandCount v) i 0) e)
+
 pub full-within : someOver mostEntry full ≡ false
 unfolding full
-full-within =
-    none-has bandCount (λ i. ltb mostEntry (getD (replicate bandCount mostEntry) i 0))
-    (λ i l. let e : getD (replicate bandCount mostEntry) i 0 ≤ mostEntry = omega (arith, getD-replicate {A = ℕ} bandCount i mostEntry 0 l) in le-ltb mostEntry (getD (replicate bandCount mostEntry) i 0) e)
+full-within = flat-within mostEntry (le-refl mostEntry)
 
 pub within : (someOver mostAggregate three ≡ false) × (someOver mostAggregate (40000 ∷ 30000 ∷ []) ≡ false) × (someOver mostAggregate [] ≡ false) × (someOver mostAggregate tiedBelow ≡ false)
 unfolding first

@@ -1,17 +1,20 @@
 -- Refusals 2, 11, 9, 13 and 12 of both entries: each limit met and passed, and each two rules in their order.
 use Prim.Native.Nat.{ℕ}
+use native.Mathlib.Omega.{arith}
 use mathlib.Core.Path.{_≡_, refl, ap}
-use mathlib.Core.Bool.{true, false}
+use mathlib.Core.Bool.{false}
 use mathlib.Core.List.{List, [], _∷_}
-use lib.ListN.{length, replicate, set}
-use Rattle.paper.specs.Limits.{mostAggregate, mostEntry}
+use lib.ListN.{length, getD, replicate, set}
+use lib.Dec.{ltb, lit<}
+use Rattle.paper.specs.Limits.{mostAggregate, bandCount, mostEntry}
 use Rattle.paper.specs.Lists.{sum, count, first, sumOf, firstOver, someOver}
 use Rattle.paper.specs.Rulings.{Outcome, accepted, refused, Rule, _at_, judged}
+use Rattle.paper.proofs.Firsts.{first-here}
 use Rattle.tally.specs.Places.{places}
 use Rattle.tally.specs.Examples.{full}
 use Rattle.bands.specs.Placing.{remainder}
 use Rattle.bands.specs.Promise.{sizeRules, lentRules, ruling, lent, togetherRuling}
-use Rattle.bands.proofs.ByHand.{faulty, high, full-within, within, places-over}
+use Rattle.bands.proofs.ByHand.{faulty, high, flat-within, full-within, within, places-over}
 
 -- one student of 0.00 and Y=0: a table, how many ranks, percentiles and bands are lent, and counts
 abbrev together-at : List ℕ → ℕ → ℕ → ℕ → List ℕ → Outcome ℕ
@@ -96,27 +99,29 @@ unfolding full remainder count sum
 together-nobody counts l = (rw (l, full-within, within .2) refl, rw l refl, refl, refl, refl, refl, refl, simp (l, places-over .0) refl)
 
 -- what no rule refuses is accepted, with its remainder: one student of 0.00, and of 500.00 at Y=1000000; all tied; both ends; a table of zeros
+abbrev zeros : List ℕ
+zeros = replicate bandCount 0
+
 taken-within : (someOver mostAggregate (0 ∷ []) ≡ false) × (someOver mostAggregate (50000 ∷ []) ≡ false) × (someOver mostAggregate (7 ∷ 7 ∷ []) ≡ false) × (someOver mostAggregate (50000 ∷ 0 ∷ []) ≡ false)
-    × (someOver mostEntry (replicate 2000 0) ≡ false)
 unfolding first
-taken-within = (refl, refl, refl, refl, refl)
+taken-within = (refl, refl, refl, refl)
 
 taken-remainders : (remainder (0 ∷ []) full 1 ≡ 0) × (remainder (50000 ∷ []) full 1000000 ≡ 0) × (remainder (7 ∷ 7 ∷ []) full 1 ≡ 2) × (remainder (50000 ∷ 0 ∷ []) full 1 ≡ 1)
-    × (remainder (7 ∷ 7 ∷ []) (replicate 2000 0) 1 ≡ 2)
+    × (remainder (7 ∷ 7 ∷ []) zeros 1 ≡ 2)
 unfolding remainder places full count sum sumOf
 taken-remainders = (refl, refl, refl, refl, refl)
 
 pub together-taken : (counts : List ℕ) → length counts ≡ 50001
     → (togetherRuling (0 ∷ []) full 1 (lent (9 ∷ []) (9 ∷ []) (9 ∷ []) counts) ≡ accepted 0) × (togetherRuling (50000 ∷ []) full 1000000 (lent (9 ∷ []) (9 ∷ []) (9 ∷ []) counts) ≡ accepted 0)
     × (togetherRuling (7 ∷ 7 ∷ []) full 1 (lent two two two counts) ≡ accepted 2) × (togetherRuling (50000 ∷ 0 ∷ []) full 1 (lent two two two counts) ≡ accepted 1)
-    × (togetherRuling (7 ∷ 7 ∷ []) (replicate 2000 0) 1 (lent two two two counts) ≡ accepted 2)
+    × (togetherRuling (7 ∷ 7 ∷ []) zeros 1 (lent two two two counts) ≡ accepted 2)
 unfolding full
 together-taken counts l = (
   rw (l, full-within, taken-within .0) (ap accepted (taken-remainders .0)),
   rw (l, full-within, taken-within .1) (ap accepted (taken-remainders .1)),
   rw (l, full-within, taken-within .2) (ap accepted (taken-remainders .2)),
   rw (l, full-within, taken-within .3) (ap accepted (taken-remainders .3)),
-  rw (l, taken-within .4, taken-within .2) (ap accepted (taken-remainders .4)),
+  rw (l, flat-within 0 (omega arith), taken-within .2) (ap accepted (taken-remainders .4)),
 )
 
 -- 100000 students
@@ -125,14 +130,16 @@ pub together-most : (aggregates : List ℕ) → length aggregates ≡ 100000 →
 unfolding full
 together-most aggregates e w counts l = rw (w, full-within, e, l) refl
 
--- 12 and 13 at the lowest index of those over, in the first place too
-places-at : (someOver mostAggregate (50001 ∷ 0 ∷ 50001 ∷ []) ≡ true) × (firstOver mostAggregate (50001 ∷ 0 ∷ 50001 ∷ []) ≡ 0)
-    × (someOver mostEntry (set full 0 1000001) ≡ true) × (firstOver mostEntry (set full 0 1000001) ≡ 0)
+-- 12 and 13 at the lowest index of those over, the first too
+abbrev faulty-first : List ℕ
+faulty-first = set full 0 1000001
+
+places-at : (firstOver mostAggregate (50001 ∷ 0 ∷ 50001 ∷ []) ≡ 0) × (firstOver mostEntry faulty-first ≡ 0)
 unfolding first full
-places-at = (refl, refl, refl, refl)
+places-at = (refl, first-here bandCount (λ i. ltb mostEntry (getD faulty-first i 0)) 0 (lit< tt) (λ i l. absurd (omega arith)) refl)
 
 pub together-places : (counts : List ℕ) → length counts ≡ 50001
     → (togetherRuling (50001 ∷ 0 ∷ 50001 ∷ []) full 1 (lent (0 ∷ 0 ∷ 0 ∷ []) (0 ∷ 0 ∷ 0 ∷ []) (0 ∷ 0 ∷ 0 ∷ []) counts) ≡ refused (12 at 0))
-    × (togetherRuling two (set full 0 1000001) 1 (lent two two two counts) ≡ refused (13 at 0))
+    × (togetherRuling two faulty-first 1 (lent two two two counts) ≡ refused (13 at 0))
 unfolding full
-together-places counts l = (simp (l, full-within, places-at .0, places-at .1) refl, simp (l, places-at .2, places-at .3) refl)
+together-places counts l = (simp (l, full-within, places-at .0) refl, simp (l, places-at .1) refl)
