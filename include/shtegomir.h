@@ -17,6 +17,12 @@
  * Of a struct that is returned only the numbers are said: the bytes between and behind them may hold anything. Compare structs number by
  * number, never by memcmp or by a hash of their bytes.
  *
+ * Beside each call stands how many bytes of stack it takes at most: the arguments that do not go in registers, the return address and all
+ * below it, and not the caller's own frame. These figures are measured and not proved, for the proof knows no stack: tests/c/stack.c takes
+ * them from the compiled library, over inputs that go deepest, and they are rounded up to whole 16 bytes. Where a program binds the C
+ * library's memset and memcpy at their first call, and not at its start, a call that is the first to use them takes some kilobytes more,
+ * for the dynamic linker.
+ *
  * Link with libshtegomir.a, for x86-64 Linux.
  */
 #ifndef SHTEGOMIR_H
@@ -100,9 +106,12 @@ struct shtegomir_best {
  *    6  two usable of one subject and year, however old: the index of the later one
  *    7  no English: 0
  *    8  no admissible set: 0
+ *
+ * It takes at most SHTEGOMIR_BEST_SET_STACK bytes of stack, for five results as for sixteen, and for a student who is refused.
  */
 struct shtegomir_best shtegomir_best_set(const uint8_t *catalogue, size_t catalogue_len, const uint8_t *table, size_t table_len,
                                          uint32_t year, const uint8_t *results, size_t results_len);
+enum { SHTEGOMIR_BEST_SET_STACK = 448 };
 
 /* ---- First scaled scores of a subject ---- */
 
@@ -128,9 +137,12 @@ struct shtegomir_scored {
  *    3  a short course, a kind outside 1 to 6, or a table without the subject's row: 0
  *   11  another number of counts than the kind asks, or table not of whole rows: 0
  *   15  a count over 1000000: its index; then a total over it: 0
+ *
+ * It takes at most SHTEGOMIR_FIRST_SCORES_STACK bytes of stack.
  */
 struct shtegomir_scored shtegomir_first_scores(uint32_t kind, uint32_t subject, const uint32_t *counts, size_t counts_len,
                                                uint8_t *table, size_t table_len);
+enum { SHTEGOMIR_FIRST_SCORES_STACK = 48 };
 
 /* ---- The population and the participation curve ---- */
 
@@ -150,8 +162,11 @@ struct shtegomir_curve {
  *   11  not ten figures, or not 2000 entries: 0
  *    9  a figure over 1000000: its index; then E or Y zero: 10
  *   10  r outside 2500 to 7500: 0
+ *
+ * It takes at most SHTEGOMIR_PARTICIPATION_STACK bytes of stack.
  */
 struct shtegomir_curve shtegomir_participation(const uint32_t *figures, size_t figures_len, uint32_t *table, size_t table_len);
+enum { SHTEGOMIR_PARTICIPATION_STACK = 64 };
 
 /* ---- Ranks and percentiles ---- */
 
@@ -168,9 +183,12 @@ struct shtegomir_ranked {
  * Refused, in this order, at a place:
  *    2  over 100000 values: 100000
  *   11  either buffer not as long as the values: 0
+ *
+ * It takes at most SHTEGOMIR_RANK_STACK bytes of stack.
  */
 struct shtegomir_ranked shtegomir_rank(const uint32_t *values, size_t values_len, uint32_t *ranks, size_t ranks_len,
                                        uint32_t *percentiles, size_t percentiles_len);
+enum { SHTEGOMIR_RANK_STACK = 2368 };
 
 /* ---- Bands ---- */
 
@@ -194,9 +212,12 @@ struct shtegomir_placed {
  *    9  population zero or over 1000000: 0
  *   13  an entry over 1000000: its index
  *   12  an aggregate over 50000: its index
+ *
+ * It takes at most SHTEGOMIR_PLACE_DIRECT_STACK bytes of stack.
  */
 struct shtegomir_placed shtegomir_place_direct(const uint32_t *aggregates, size_t aggregates_len, const uint32_t *table,
                                                size_t table_len, uint32_t population, uint16_t *bands, size_t bands_len);
+enum { SHTEGOMIR_PLACE_DIRECT_STACK = 144 };
 
 /* ---- Ranks and bands in one call ---- */
 
@@ -222,11 +243,14 @@ struct shtegomir_placed shtegomir_place_direct(const uint32_t *aggregates, size_
  *    9  population zero or over 1000000: 0
  *   13  an entry over 1000000: its index
  *   12  an aggregate over 50000: its index
+ *
+ * It takes at most SHTEGOMIR_RANK_AND_PLACE_STACK bytes of stack.
  */
 struct shtegomir_placed shtegomir_rank_and_place(const uint32_t *aggregates, size_t aggregates_len, const uint32_t *table,
                                                  size_t table_len, uint32_t population, uint32_t *ranks, size_t ranks_len,
                                                  uint32_t *percentiles, size_t percentiles_len, uint16_t *bands, size_t bands_len,
                                                  uint32_t *counts, size_t counts_len);
+enum { SHTEGOMIR_RANK_AND_PLACE_STACK = 160 };
 
 /* ---- The listing of a cohort file ---- */
 
@@ -248,9 +272,10 @@ struct shtegomir_text {
  * Refused, at a place:
  *   11  text not of 65536 bytes: 0
  *
- * It takes about 140 kilobytes of stack.
+ * It takes at most SHTEGOMIR_REPORT_STACK bytes of stack.
  */
 struct shtegomir_text shtegomir_report(const uint8_t *file, size_t file_len, uint8_t *text, size_t text_len);
+enum { SHTEGOMIR_REPORT_STACK = 87760 };
 
 #ifdef __cplusplus
 }

@@ -1,3 +1,5 @@
+pub mod Clashing
+pub mod Pairing
 pub mod Bridge
 pub mod ByHand
 pub mod ByHandGrades

@@ -13,7 +13,7 @@ use lib.ListN.{length, getD, set, replicate}
 use lib.Seq.{getD-set-same, getD-set-other}
 use Rattle.paper.specs.Limits.{mostResults}
 use Rattle.seek.specs.Sets.{In}
-use Rattle.seek.specs.InnerPacking.{valueAt}
+use Rattle.seek.specs.InnerTest.{valueAt}
 use Rattle.results.specs.Results.{Student, result}
 use Rattle.bestset.specs.InnerMarks.{MaskOf, unmarked, marked, withOne, Masked, ByPosition}
 use Rattle.bestset.specs.declared.marks.Masks.{Masks}
@@ -82,14 +82,15 @@ masked-one s i masks h m =
       applied-maths = one _ i _ h (m .applied-maths) _ refl;
     }
 
-zeros-at : (n i : ℕ) → getD {A = ℕ} (replicate n 0) i 0 ≡ 0
+-- a blank buffer
+pub zeros-at : (n i : ℕ) → getD {A = ℕ} (replicate n 0) i 0 ≡ 0
 zeros-at zero i = refl
 zeros-at (suc n) zero = refl
 zeros-at (suc n) (suc i) = zeros-at n i
 
 -- at first none is read
-pub read-none : (f : ℕ → ℕ) (n : ℕ) → ByPosition f 0 (replicate n 0)
-read-none f n = record { each = λ i l. absurd (omega arith); rest = λ i l. zeros-at n i }
+pub read-none : (f : ℕ → ℕ) (values : List ℕ) → ((i : ℕ) → valueAt values i ≡ 0) → ByPosition f 0 values
+read-none f values blank = record { each = λ i l. absurd (omega arith); rest = λ i l. blank i }
 
 -- one result more
 pub read-next : (f : ℕ → ℕ) (i : ℕ) (values : List ℕ) (v : ℕ) → i < length values → v ≡ f i → ByPosition f i values → ByPosition f (suc i) (set values i v)

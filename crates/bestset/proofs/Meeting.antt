@@ -17,7 +17,7 @@ use Rattle.bestset.specs.Rules.{resultRules, turnRules, repeatRule, stud
 use Rattle.bestset.specs.Promise.{said, WellFormed, ruling, totalOf, Answered, RuledBy, Ruled, Promise}
 use Rattle.bestset.specs.Computed.{Choice, none, one, chosen, admissible, told, decided, computed, answer}
 use Rattle.bestset.specs.declared.Answer.{Answer}
-use Rattle.bestset.proofs.Bridge.{kept-held, few-held}
+use Rattle.bestset.proofs.Clashing.{kept-held, few-held}
 use Rattle.bestset.proofs.Choosing.{Led, chosen-led}
 use Rattle.bestset.proofs.Deciding.{test-admissible, admissible-test}
 use Rattle.bestset.proofs.Promised.{tells, ruled-once}

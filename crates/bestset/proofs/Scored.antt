@@ -21,7 +21,7 @@ use Rattle.results.proofs.Scores.{score-most}
 use Rattle.bestset.specs.Admissible.{Admissible}
 use Rattle.bestset.specs.Rules.{isScore, unscored, sameYear, repeated}
 use Rattle.bestset.specs.Promise.{Values, WellFormed, Chosen}
-use Rattle.bestset.proofs.Bridge.{rules-kept, usable-held}
+use Rattle.bestset.proofs.Clashing.{rules-kept, usable-held}
 
 -- the slot of a result holds a score of at most the greatest, and this is what the result counts
 pub record Scored (table : List ℕ) (r : Result) : Type 0 where

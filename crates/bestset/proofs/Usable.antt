@@ -15,7 +15,8 @@ use Rattle.seek.proofs.Digits.{test-in, test-not, in-lt, in-none, all-below}
 use Rattle.results.specs.Results.{Student, held, result}
 use Rattle.results.specs.Counting.{usable, usableAt, passesAt, showsEnglish, kept}
 use Rattle.bestset.specs.Rules.{repeated}
-use Rattle.bestset.specs.InnerMarks.{MaskOf, keptIn, repeatedIn}
+use Rattle.bestset.specs.InnerMarks.{MaskOf}
+use Rattle.bestset.specs.InnerPairs.{keptAmong, keptIn, repeatedIn}
 
 -- what the bit of a mask says
 pub marked-yes : (mask i : ℕ) → i < mostResults → (bitAnd mask (1 * 2 ^ i % 65536) ≡ 0 → ⊥) → has mask i ≡ true
@@ -44,7 +45,7 @@ module _ (s : Student) (mask : ℕ) (h : MaskOf (λ i. usable (result s i)) (hel
           ne-eqb _ _ (λ p. omega (arith, in-lt (held s) mask i (h .small) p)) ∙ sym (ap (λ (b : Bool). b && usable (result s i)) (le-ltb _ _ out))
 
   pub kept-is : keptIn (s .results) mask ≡ kept s
-  unfolding keptIn kept
+  unfolding keptAmong kept
   kept-is =
       let by : (ℕ → Bool) → ℕ → Bool = λ u i. u i && not (some (held s) (λ j. (u j && result s j .subject =? result s i .subject) && result s i .year <? result s j .year)) in
       ap by (λ k i. has-usable i k)
@@ -55,22 +56,28 @@ module _ (s : Student) (mask : ℕ) (h : MaskOf (λ i. usable (result s i)) (hel
       let by : (ℕ → Bool) → ℕ → Bool = λ u i. u i && some i (λ j. (u j && result s j .subject =? result s i .subject) && result s j .year =? result s i .year) in
       ap by (λ k i. has-usable i k)
 
--- English is shown where some result is marked
-module _ (s : Student) (mask : ℕ) (h : MaskOf (passesAt s) (held s) mask) where
-  pub none-shown : mask ≡ 0 → showsEnglish s ≡ false
-  unfolding showsEnglish
-  none-shown e = none-has (held s) (passesAt s) (λ i l. go (passesAt s i) refl l)
+-- a mask of a test is 0 where none has the test
+module _ (f : ℕ → Bool) (n mask : ℕ) (h : MaskOf f n mask) where
+  pub mask-none : mask ≡ 0 → some n f ≡ false
+  mask-none e = none-has n f (λ i l. go (f i) refl l)
     where
-      go : {i : ℕ} (b : Bool) → passesAt s i ≡ b → i < held s → b ≡ false
+      go : {i : ℕ} (b : Bool) → f i ≡ b → i < n → b ≡ false
       go {i} true p l = absurd (in-none i (subst (In i) e (h .whole i l p)))
       go false p l = refl
 
-  pub some-shown : (mask ≡ 0 → ⊥) → showsEnglish s ≡ true
-  unfolding showsEnglish
-  some-shown n = go (showsEnglish s) refl
+  pub mask-some : (mask ≡ 0 → ⊥) → some n f ≡ true
+  mask-some m = go (some n f) refl
     where
-      go : (b : Bool) → showsEnglish s ≡ b → b ≡ true
+      go : (b : Bool) → some n f ≡ b → b ≡ true
       go true e = refl
       go false e =
-          absurd (n (let z = all-below (held s) 0 mask (h .small) (λ i p.
-          absurd (true≢false (sym (h .sound i p) ∙ some-not (held s) (passesAt s) e i (in-lt (held s) mask i (h .small) p)))) in omega arith))
+          absurd (m (let z = all-below n 0 mask (h .small) (λ i p. absurd (true≢false (sym (h .sound i p) ∙ some-not n f e i (in-lt n mask i (h .small) p)))) in omega arith))
+
+-- so English is shown where some result is marked
+pub none-shown : (s : Student) (mask : ℕ) → MaskOf (passesAt s) (held s) mask → mask ≡ 0 → showsEnglish s ≡ false
+unfolding showsEnglish
+none-shown s mask h = mask-none (passesAt s) (held s) mask h
+
+pub some-shown : (s : Student) (mask : ℕ) → MaskOf (passesAt s) (held s) mask → (mask ≡ 0 → ⊥) → showsEnglish s ≡ true
+unfolding showsEnglish
+some-shown s mask h = mask-some (passesAt s) (held s) mask h

@@ -1,22 +1,28 @@
--- What is read of the results: masks, bit i for result i, and values by position; and the tests of results over the mask of the usable ones.
-use Prim.Native.Nat.{ℕ, _+_, _*_, _%_, _^_, _≤_, _<_}
+-- What is read of the results: masks, bit i for result i, and numbers by position.
+use Prim.Native.Nat.{ℕ, _*_, _%_, _^_, _≤_, _<_}
 use mathlib.Core.Path.{_≡_}
-use mathlib.Core.Bool.{Bool, true, not, _&&_, _||_}
+use mathlib.Core.Bool.{Bool, true, _&&_}
 use mathlib.Core.List.{List}
 use lib.Bits.{bitOr}
-use Rattle.paper.specs.Limits.{mostSpan}
-use Rattle.paper.specs.Lists.{some}
-use Rattle.paper.specs.Words.{_<?_, _=?_, if_then_else_}
+use lib.ListN.{length}
+use Rattle.paper.specs.Limits.{mostResults}
+use Rattle.paper.specs.Refusals.{fault}
+use Rattle.paper.specs.Rulings.{Outcome, accepted, refused, _at_, judged}
+use Rattle.paper.specs.Words.{if_then_else_}
 use Rattle.catalogue.specs.Kinds.{english, mathematics}
-use Rattle.seek.specs.Sets.{In, has}
-use Rattle.seek.specs.InnerPacking.{valueAt}
-use Rattle.results.specs.Results.{heldIn, subjectOf, yearOf, Student, held, result}
+use Rattle.seek.specs.Sets.{In}
+use Rattle.seek.specs.InnerTest.{valueAt}
+use Rattle.seek.specs.declared.search.Lead.{Lead}
+use Rattle.seek.specs.declared.search.Lead.the-variants.{Leading, Nothing}
+use Rattle.results.specs.Results.{heldIn, Student, held, result}
 use Rattle.results.specs.Counting.{ofGeneral, ofApplied, ofStrand, generalAt, appliedAt, strandAt, usable, passes, passesAt}
 use Rattle.results.specs.Scoring.{scoreAt, identityAt}
 use Rattle.results.specs.declared.reading.Result.{Result}
-use Rattle.bestset.specs.Promise.{WellFormed}
+use Rattle.bestset.specs.Rules.{turnRules}
+use Rattle.bestset.specs.Promise.{Values}
 use Rattle.bestset.specs.declared.marks.Masks.{Masks}
-use Rattle.bestset.specs.declared.marks.Read.{Read}
+use Rattle.bestset.specs.declared.marks.Reading.{Reading}
+use Rattle.bestset.specs.declared.marks.Reading.the-variants.{All, Wrong}
 
 -- of the results below n a mask holds those of f, and those alone
 pub record MaskOf (f : ℕ → Bool) (n mask : ℕ) : Type 0 where
@@ -60,41 +66,27 @@ pub record ByPosition (f : ℕ → ℕ) (n : ℕ) (values : List ℕ) : Type 0 w
   pub rest : (i : ℕ) → n ≤ i → valueAt values i ≡ 0
 
 -- all results are read
-pub record AllRead (s : Student) (table : List ℕ) (read : Read) : Type 0 where
-  pub masks-are : Masked s (held s) (read .masks)
-  pub scores-are : ByPosition (scoreAt s table) (held s) (read .scores)
-  pub identities-are : ByPosition (identityAt s) (held s) (read .identities)
+pub record AllRead (s : Student) (table : List ℕ) (masks : Masks) (scores identities : List ℕ) : Type 0 where
+  pub masks-are : Masked s (held s) masks
+  pub scores-are : ByPosition (scoreAt s table) (held s) scores
+  pub identities-are : ByPosition (identityAt s) (held s) identities
 
--- what choosing asks: a well-formed student, and all results read
-pub record Choosable (s : Student) (table : List ℕ) (read : Read) : Type 0 where
-  pub formed : WellFormed s table
-  pub all : AllRead s table read
+-- a buffer with a place for each of sixteen results, and nothing in it
+pub record Blank (values : List ℕ) : Type 0 where
+  pub sized : length values ≡ mostResults
+  pub empty : (i : ℕ) → valueAt values i ≡ 0
 
--- results, the mask of the usable ones, i, j: result j is usable, of the same subject as result i; and in a later year; in the same year
-abbrev pub sameSubjectIn : List ℕ → ℕ → ℕ → ℕ → Bool
-sameSubjectIn results usable i j = has usable j && subjectOf results j =? subjectOf results i
+pub record Readable (results scores identities : List ℕ) : Type 0 where
+  pub few : heldIn results ≤ mostResults
+  pub no-scores : Blank scores
+  pub no-identities : Blank identities
 
-abbrev pub laterIn : List ℕ → ℕ → ℕ → ℕ → Bool
-laterIn results usable i j = sameSubjectIn results usable i j && yearOf results i <? yearOf results j
+-- student, table, what the reading says, the buffers after it: no result breaks a rule, and all are read; or a rule that is broken
+abbrev pub ReadAs : Student → List ℕ → Reading → List ℕ → List ℕ → Type 0
+ReadAs s table (All masks) scores identities = (judged (turnRules s table) (tt {0}) ≡ accepted tt) × AllRead s table masks scores identities
+ReadAs s table (Wrong x) scores identities = judged (turnRules s table) (tt {0}) ≡ refused (fault x)
 
-abbrev pub sameYearIn : List ℕ → ℕ → ℕ → ℕ → Bool
-sameYearIn results usable i j = sameSubjectIn results usable i j && yearOf results j =? yearOf results i
-
--- results, the mask, i: result i is kept; it is the later one of two of one subject and year
-unfoldable pub keptIn : List ℕ → ℕ → ℕ → Bool
-keptIn results usable i = has usable i && not (some (heldIn results) (laterIn results usable i))
-
-unfoldable pub repeatedIn : List ℕ → ℕ → ℕ → Bool
-repeatedIn results usable i = has usable i && some i (sameYearIn results usable i)
-
--- of two years the one exceeds the other by more than four
-abbrev pub tooFar : ℕ → ℕ → Bool
-tooFar one other = (one + mostSpan) <? other || (other + mostSpan) <? one
-
--- the years of results i and j
-abbrev pub farIn : List ℕ → ℕ → ℕ → Bool
-farIn results i j = tooFar (yearOf results i) (yearOf results j)
-
--- results, masks by position: each holds the results before its own that are too far from it
-abbrev pub FarBefore : List ℕ → List ℕ → Type 0
-FarBefore results masks = (i : ℕ) → i < heldIn results → MaskOf (farIn results i) i (valueAt masks i)
+-- what the search found: the aggregate and the set; or 8
+abbrev pub outcome : Lead → Outcome Values
+outcome (Leading total set) = accepted (record { aggregate = total; set = set })
+outcome Nothing = refused (8 at 0)

@@ -1,21 +1,22 @@
 // One student: the best set of five results, or why there is none.
+ghost use mathlib.Core.Path.{_≡_};
 ghost use Rattle.results.specs.Results.{student};
-ghost use Rattle.bestset.specs.Promise.{said, Answered, Promise};
-ghost use Rattle.bestset.specs.InnerMarks.{Choosable};
-ghost use Rattle.bestset.specs.InnerJudging.{Readable};
-use crate::marks::Read;
+ghost use Rattle.bestset.specs.Promise.{said, Promise};
+ghost use Rattle.bestset.specs.InnerMarks.{outcome};
+ghost use Rattle.bestset.specs.InnerJudging.{Begun};
+use crate::marks::Reading;
+use crate::pairs::Compared;
+use paper::limits::MOST_RESULTS;
 use paper::limits::RESULT_BYTES;
 use paper::refusal::Refusal;
 use paper::screening::Verdict;
-use seek::packing;
 use seek::search;
 use seek::search::Lead;
 use seek::search::Test;
 
 mod marks;
+mod pairs;
 mod readable;
-mod repeats;
-mod spans;
 
 // The aggregate in hundredths and the set, bit i for result i; or what is wrong.
 pub enum Answer {
@@ -23,29 +24,10 @@ pub enum Answer {
     Refused(Refusal),
 }
 
-// The best set of a well-formed student, from what is read of the results. Catalogue, table and year are there for the contract, which speaks of the
-// student; the search reads them no more.
-fn choose(catalogue: &[u8], table: &[u8], year: u64, results: &[u8], read: Read) -> Answer
-    requires { ⌜ Choosable (student (now catalogue) year (now results)) (now table) read ⌝ }
-    ensures { λ r. ⌜ Answered (student (now (catalogue .entry)) year (now (results .entry))) (now (table .entry)) (said r) ⌝ }
+// What the search found: the aggregate and the set, or 8.
+fn told(lead: Lead) -> Answer
+    ensures { λ r. ⌜ said r ≡ outcome lead ⌝ }
 {
-    let masks = read.masks;
-    let scores = read.scores;
-    let identities = read.identities;
-    let masked = spans::far_of(results);
-    let far = packing::pack(&masked);
-    let test = Test {
-        kept: repeats::kept_of(results, masks.usable),
-        general: masks.general,
-        general_english: masks.general_english,
-        applied_english: masks.applied_english,
-        general_maths: masks.general_maths,
-        applied_maths: masks.applied_maths,
-        identities: packing::pack(&identities),
-        far,
-        spread: packing::some(far),
-    };
-    let lead = search::search(test, &scores, results.len() / RESULT_BYTES);
     match lead {
         Lead::Nothing => Answer::Refused(Refusal::NoSet),
         Lead::Leading { total, set } => Answer::Accepted {
@@ -55,21 +37,40 @@ fn choose(catalogue: &[u8], table: &[u8], year: u64, results: &[u8], read: Read)
     }
 }
 
-// The best set of a student whose results can be read: 6, 7, 8 are left.
+// The best set of a student with a catalogue, a table, a year and a number of results that are right: for each result 3, 4, 5, then 6, 7, 8 are left.
+// The results stay where they are lent; what the search needs beside them is a number or two to each.
 fn weigh(catalogue: &[u8], table: &[u8], year: u64, results: &[u8]) -> Answer
-    requires { ⌜ Readable (student (now catalogue) year (now results)) (now table) ⌝ }
+    requires { ⌜ Begun (student (now catalogue) year (now results)) (now table) ⌝ }
     ensures { λ r. ⌜ Promise (student (now (catalogue .entry)) year (now (results .entry))) (now (table .entry)) r ⌝ }
 {
-    let read = marks::read_all(catalogue, table, year, results);
-    let masks = read.masks;
-    let again = repeats::first_repeated(results, masks.usable);
-    if again < results.len() / RESULT_BYTES {
-        return Answer::Refused(Refusal::Again(again));
-    }
+    let mut scores = [0u32; MOST_RESULTS];
+    let mut identities = [0u16; MOST_RESULTS];
+    let mut clashes = [0u16; MOST_RESULTS];
+    let reading = marks::read_all(
+        catalogue,
+        table,
+        year,
+        results,
+        &mut scores,
+        &mut identities,
+    );
+    let masks = match reading {
+        Reading::Wrong(x) => return Answer::Refused(x),
+        Reading::All(masks) => masks,
+    };
+    let compared = pairs::compare(results, masks, &identities, &mut clashes);
+    let kept = match compared {
+        Compared::Again(i) => return Answer::Refused(Refusal::Again(i)),
+        Compared::Kept(kept) => kept,
+    };
     if masks.passes == 0 {
         return Answer::Refused(Refusal::NoEnglish);
     }
-    choose(catalogue, table, year, results, read)
+    let test = Test {
+        kept,
+        general: masks.general,
+    };
+    told(search::search(test, &clashes, &scores, results.len() / RESULT_BYTES))
 }
 
 // The best set of five results, for the assessment year.

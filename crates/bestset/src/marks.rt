@@ -1,21 +1,25 @@
 // What is read of the results, each once: masks of their sorts, bit i for result i, and scores and identities by position.
 ghost use mathlib.Core.Path.{_≡_};
-ghost use mathlib.Core.Bool.{_&&_};
-ghost use Prim.Native.Nat.{_≤_, _<_};
+ghost use mathlib.Core.Bool.{_&&_, _||_};
+ghost use Prim.Native.Nat.{_<_};
 ghost use Rattle.paper.specs.Limits.{mostResults};
-ghost use Rattle.results.specs.Results.{heldIn, student};
-ghost use Rattle.bestset.specs.InnerMarks.{unmarked, marked, withOne, AllRead};
+ghost use Rattle.results.specs.Results.{student};
+ghost use Rattle.bestset.specs.InnerMarks.{unmarked, marked, withOne, Readable, ReadAs};
+use crate::readable;
 use catalogue::kinds;
 use catalogue::kinds::ENGLISH;
 use catalogue::kinds::MATHEMATICS;
+use paper::limits::ENTRY_BYTES;
 use paper::limits::MOST_RESULTS;
 use paper::limits::RESULT_BYTES;
+use paper::refusal::Refusal;
+use paper::screening::Verdict;
 use results::counting;
 use results::reading;
 use results::reading::Result;
 use results::scoring;
 
-// The usable results, those that show English, and those of each sort that the rules of sets ask for.
+// The usable results, those that show English, the General ones, and those of each sort that the rules of sets ask for.
 pub(crate) struct Masks {
     pub(crate) usable: u16,
     pub(crate) passes: u16,
@@ -26,11 +30,10 @@ pub(crate) struct Masks {
     pub(crate) applied_maths: u16,
 }
 
-// The masks, and the scores and identities by position, 0 past the results.
-pub(crate) struct Read {
-    pub(crate) masks: Masks,
-    pub(crate) scores: [u32; MOST_RESULTS],
-    pub(crate) identities: [u16; MOST_RESULTS],
+// All results were read, or what is wrong with the first that is wrong.
+pub(crate) enum Reading {
+    All(Masks),
+    Wrong(Refusal),
 }
 
 // A mask with result i, if it is of the sort.
@@ -44,11 +47,17 @@ pub(crate) fn marked(mask: u16, i: usize, belongs: bool) -> u16
     mask
 }
 
-// Whether both hold: as a call, so that filling in a mask has no branch of its own.
-fn both(one: bool, other: bool) -> bool
+// Whether both hold, and whether one does: as calls, so that filling in a mask has no branch of its own.
+pub(crate) fn both(one: bool, other: bool) -> bool
     ensures { λ r. ⌜ r ≡ (one && other) ⌝ }
 {
     one && other
+}
+
+pub(crate) fn either(one: bool, other: bool) -> bool
+    ensures { λ r. ⌜ r ≡ (one || other) ⌝ }
+{
+    one || other
 }
 
 // The masks with result i.
@@ -86,25 +95,32 @@ fn unmarked() -> Masks
     }
 }
 
-// All results, in one pass. The year is there for the contract, which speaks of the student.
-pub(crate) fn read_all(catalogue: &[u8], table: &[u8], year: u64, results: &[u8]) -> Read
-    requires { ⌜ heldIn (now results) ≤ mostResults ⌝ }
-    ensures { λ r. ⌜ AllRead (student (now (catalogue .entry)) year (now (results .entry))) (now (table .entry)) r ⌝ }
+// Reads and judges all results in one pass, 3, 4, 5 of each in turn; the buffers are given blank. Each is read once, with its catalogue entry and its
+// slot, for every rule that asks.
+pub(crate) fn read_all(
+    catalogue: &[u8],
+    table: &[u8],
+    year: u64,
+    results: &[u8],
+    scores: &mut [u32; MOST_RESULTS],
+    identities: &mut [u16; MOST_RESULTS],
+) -> Reading
+    requires { ⌜ Readable (now results) (now scores) (now identities) ⌝ }
+    ensures { λ r. ⌜ ReadAs (student (now (catalogue .entry)) year (now (results .entry))) (now (table .entry)) r (now (scores .exit)) (now (identities .exit)) ⌝ }
 {
     let mut masks = unmarked();
-    let mut scores = [0u32; MOST_RESULTS];
-    let mut identities = [0u16; MOST_RESULTS];
     let mut i: usize = 0;
     while i < results.len() / RESULT_BYTES {
         let result = reading::result_at(catalogue, results, i);
+        let slot = scoring::slot_of(table, result);
+        let verdict = readable::judge_result(catalogue.len() / ENTRY_BYTES, year, result, slot, i);
+        if let Verdict::Refused(x) = verdict {
+            return Reading::Wrong(x);
+        }
         masks = with_one(masks, i, result);
-        scores[i] = scoring::score_of(scoring::slot_of(table, result));
+        scores[i] = scoring::score_of(slot);
         identities[i] = scoring::identity_of(result);
         i += 1;
     }
-    Read {
-        masks,
-        scores,
-        identities,
-    }
+    Reading::All(masks)
 }

@@ -1,4 +1,4 @@
-// Whether a student's results can be read: nothing before 6 refuses.
+// What is judged before the results are read: the catalogue, the table's length, the year, the number of results; and each result as it is read.
 ghost use mathlib.Core.Path.{_≡_};
 ghost use Prim.Native.Nat.{_≤_};
 ghost use Rattle.paper.specs.Limits.{mostSubjects};
@@ -7,8 +7,8 @@ ghost use Rattle.paper.specs.Screening.{ruled};
 ghost use Rattle.catalogue.specs.Catalogue.{subjects};
 ghost use Rattle.scores.specs.Promise.{looked};
 ghost use Rattle.results.specs.Results.{student};
-ghost use Rattle.bestset.specs.Rules.{gradeFits, wrong, isScore, unscored, inputRules, turnRules};
-ghost use Rattle.bestset.specs.InnerJudging.{rulesOf, readRules};
+ghost use Rattle.bestset.specs.Rules.{gradeFits, wrong, isScore, inputRules};
+ghost use Rattle.bestset.specs.InnerJudging.{unscoredWith, rulesOf, startRules};
 use catalogue::kinds;
 use paper::limits::ENTRY_BYTES;
 use paper::limits::FIRST_YEAR;
@@ -24,9 +24,7 @@ use paper::screening::Verdict;
 use paper::widening::wide8;
 use paper::widening::wide16;
 use results::counting;
-use results::reading;
 use results::reading::Result;
-use results::scoring;
 use scores::slots::Slot;
 
 // Whether letter and number fit the kind.
@@ -71,19 +69,25 @@ fn is_score(slot: Slot) -> bool
     }
 }
 
-// Whether a usable result has a missing slot or one over the greatest score.
-fn unscored(table: &[u8], result: Result) -> bool
-    ensures { λ r. ⌜ r ≡ unscored (now (table .entry)) result ⌝ }
+// Whether a result is usable and what is found in its slot is no score.
+fn unscored(result: Result, slot: Slot) -> bool
+    ensures { λ r. ⌜ r ≡ unscoredWith result (looked slot) ⌝ }
 {
     if !counting::usable(result) {
         return false;
     }
-    !is_score(scoring::slot_of(table, result))
+    !is_score(slot)
 }
 
-// 3, 4, 5 of a result at a place, where there are so many subjects.
-fn judge_result(subjects: usize, table: &[u8], year: u64, result: Result, place: usize) -> Verdict
-    ensures { λ r. ⌜ ruled r ≡ judged (rulesOf subjects (now (table .entry)) year result place) tt ⌝ }
+// 3, 4, 5 of a result with what is found in its slot, at a place, where there are so many subjects.
+pub(crate) fn judge_result(
+    subjects: usize,
+    year: u64,
+    result: Result,
+    slot: Slot,
+    place: usize,
+) -> Verdict
+    ensures { λ r. ⌜ ruled r ≡ judged (rulesOf subjects year result (looked slot) place) tt ⌝ }
 {
     if subjects <= result.subject as usize {
         return Verdict::Refused(Refusal::WrongSubject(place));
@@ -91,24 +95,8 @@ fn judge_result(subjects: usize, table: &[u8], year: u64, result: Result, place:
     if wrong(year, result) {
         return Verdict::Refused(Refusal::WrongResult(place));
     }
-    if unscored(table, result) {
+    if unscored(result, slot) {
         return Verdict::Refused(Refusal::WrongScore(place));
-    }
-    Verdict::Clear
-}
-
-// 3, 4, 5 of each result in turn.
-fn judge_results(catalogue: &[u8], table: &[u8], year: u64, results: &[u8]) -> Verdict
-    ensures { λ r. ⌜ ruled r ≡ judged (turnRules (student (now (catalogue .entry)) year (now (results .entry))) (now (table .entry))) tt ⌝ }
-{
-    let mut i: usize = 0;
-    while i < results.len() / RESULT_BYTES {
-        let result = reading::result_at(catalogue, results, i);
-        let verdict = judge_result(catalogue.len() / ENTRY_BYTES, table, year, result, i);
-        if let Verdict::Refused(x) = verdict {
-            return Verdict::Refused(x);
-        }
-        i += 1;
     }
     Verdict::Clear
 }
@@ -136,15 +124,11 @@ fn judge_input(catalogue: &[u8], table: &[u8], year: u64, results: &[u8]) -> Ver
 
 // All of it, in the paper's order.
 pub(crate) fn judge(catalogue: &[u8], table: &[u8], year: u64, results: &[u8]) -> Verdict
-    ensures { λ r. ⌜ ruled r ≡ judged (readRules (student (now (catalogue .entry)) year (now (results .entry))) (now (table .entry))) tt ⌝ }
+    ensures { λ r. ⌜ ruled r ≡ judged (startRules (student (now (catalogue .entry)) year (now (results .entry))) (now (table .entry))) tt ⌝ }
 {
     let screened = catalogue::screen(catalogue);
     if let Verdict::Refused(x) = screened {
         return Verdict::Refused(x);
     }
-    let lengths = judge_input(catalogue, table, year, results);
-    if let Verdict::Refused(x) = lengths {
-        return Verdict::Refused(x);
-    }
-    judge_results(catalogue, table, year, results)
+    judge_input(catalogue, table, year, results)
 }

@@ -1,6 +1,7 @@
 // Catalogue entries. Past the end of the catalogue every part of an entry is 0.
 ghost use mathlib.Core.Path.{_≡_};
-ghost use Rattle.catalogue.specs.Catalogue.{entryAt, strandFits, levelFits, identityFits, outside, firstOutside};
+ghost use Prim.Native.Nat.{_<_};
+ghost use Rattle.catalogue.specs.Catalogue.{subjects, entryAt, strandFits, levelFits, identityFits, outside, firstOutside};
 use crate::kinds;
 use crate::kinds::ADVANCED_DIPLOMA;
 use crate::kinds::CERTIFICATE_I;
@@ -30,6 +31,20 @@ pub fn entry_at(catalogue: &[u8], i: usize) -> Entry
         strand: bytes::byte_at(catalogue, at + 1),
         level: bytes::byte_at(catalogue, at + 2),
         identity: bytes::word_at(catalogue, at + 3),
+    }
+}
+
+// The same of an entry that is there: no byte is past the end.
+fn known_entry(catalogue: &[u8], i: usize) -> Entry
+    requires { ⌜ i < subjects (now catalogue) ⌝ }
+    ensures { λ r. ⌜ r ≡ entryAt (now (catalogue .entry)) i ⌝ }
+{
+    let at = ENTRY_BYTES * i;
+    Entry {
+        kind: catalogue[at],
+        strand: catalogue[at + 1],
+        level: catalogue[at + 2],
+        identity: bytes::word_of(catalogue[at + 3], catalogue[at + 4]),
     }
 }
 
@@ -87,7 +102,7 @@ pub fn first_outside(catalogue: &[u8]) -> usize
 {
     let mut i = 0;
     while i < catalogue.len() / ENTRY_BYTES {
-        if is_outside(entry_at(catalogue, i)) {
+        if is_outside(known_entry(catalogue, i)) {
             return i;
         }
         i += 1;

@@ -9,7 +9,7 @@ use lib.Dec.{eqb, ltb}
 use borrow.Author.Tests.{lt-ltb, le-ltb}
 use Rattle.paper.specs.Limits.{mostResults, mostBytes}
 use Rattle.paper.specs.Lists.{pick}
-use Rattle.paper.specs.Rulings.{Outcome, accepted, refused, _at_, mapped, valuesOr}
+use Rattle.paper.specs.Rulings.{Fault, Outcome, accepted, refused, _at_, mapped, valuesOr}
 use Rattle.paper.specs.Promises.{Tells}
 use Rattle.paper.proofs.Promised as every
 use Rattle.paper.specs.Refusals.{fault}
@@ -24,11 +24,10 @@ use Rattle.cohort.specs.Taking.{figuresIn}
 use Rattle.cohort.specs.Judging.{valueRules, yearRules, subjectRules, scoreRules, figuresRules, studentRules}
 use Rattle.cohort.specs.Reading.{Reader, opened, passed, fieldRules, after, readAll, ended, body, reading}
 use Rattle.cohort.specs.Promise.{said, summaryOf, Lent, written, ruling, Promise, answer, left}
-use Rattle.cohort.specs.Inner.{told, Scanned}
+use Rattle.cohort.specs.Inner.{verdictOn, told, Whole}
 use Rattle.cohort.specs.declared.Answer.{Answer}
 use Rattle.cohort.specs.declared.Answer.the-variants.{Accepted, Refused}
 use Rattle.cohort.specs.declared.steps.SoFar.{SoFar}
-use Rattle.cohort.specs.declared.steps.Step.the-variants.{Go}
 use Rattle.cohort.proofs.Populated.{ten-figures, ten-kept}
 
 -- what is said tells the answer
@@ -95,15 +94,20 @@ pub large-owed : (file : List ℕ) (before : Lent) → mostBytes < length file �
 unfolding reading
 large-owed file before h = record { says = simp (lt-ltb _ _ h); leaves = refl }
 
-pub stop-owed : (file : List ℕ) (before : Lent) (x : Refusal) → length file ≤ mostBytes → body file ≡ refused (fault x) → Promise file before (Refused x) before
-stop-owed file before x h w = record { says = sym (ap (mapped summaryOf) (small file h ∙ w)); leaves = refl }
+said-refused : {A B : Type 0} (g : A → B) (o : Outcome A) (x : Fault) → mapped g o ≡ refused x → o ≡ refused x
+said-refused g (accepted v) x e = absurd (let z : _≡_ {A = ℕ} 0 1 = cc in omega arith)
+said-refused g (refused y) x e = let z : y ≡ x = cc in ap refused z
 
-pub go-owed : (file : List ℕ) (before b : Lent) (so : SoFar) → length file ≤ mostBytes → Scanned file before (Go so) b
-    → Promise file before (Accepted (told so)) b
+pub stop-says : (file : List ℕ) (x : Refusal) → length file ≤ mostBytes → refused (fault x) ≡ verdictOn file → said (Refused x) ≡ ruling file
+stop-says file x h e = sym (ap (mapped summaryOf) (small file h ∙ said-refused (λ held. tt {0}) (body file) (fault x) (sym e)))
+
+pub go-owed : (file : List ℕ) (before b : Lent) (so : SoFar) → length file ≤ mostBytes → Whole file before so b → Promise file before (Accepted (told so)) b
 go-owed file before b so h w =
     let sh = w .shows in
     let e : reading file ≡ accepted (w .held) = small file h ∙ w .read in
     let n : so .far .subjects ≡ subjects (w .held .catalogue) = omega (arith, w .counts .fives) in
     let values : said (Accepted (told so)) ≡ accepted (summaryOf (w .held))
     = λ i. accepted (record { year = sh .year i; subjects = n i; students = w .counts .number i; population = sh .population i; rate = sh .rate-is i }) in
-    record { says = values ∙ sym (ap (mapped summaryOf) e); leaves = sh .laid ∙ sym (ap (λ (o : Outcome Held). written (valuesOr nothing o) before) e) }
+    let all : b ≡ written (w .held) before
+    = λ i. record { catalogue = sh .rest-is i .catalogue; table = w .noted .table-is i; figures = sh .rest-is i .figures; ids = w .noted .ids-is i; counts = sh .rest-is i .counts; results = sh .rest-is i .results } in
+    record { says = values ∙ sym (ap (mapped summaryOf) e); leaves = all ∙ sym (ap (λ (o : Outcome Held). written (valuesOr nothing o) before) e) }

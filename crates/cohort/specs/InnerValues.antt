@@ -1,15 +1,38 @@
--- What the function of each tag asks, and the numbers with its field taken.
-use Prim.Native.Nat.{ℕ, _+_, _*_, _≤_, _<_}
+-- What a field adds to the numbers and the buffers, by its tag, and what that asks.
+use Prim.Native.Nat.{ℕ, _+_, _-_, _*_, _≤_, _<_}
 use mathlib.Core.Path.{_≡_}
 use mathlib.Core.List.{List}
-use lib.ListN.{length}
-use Rattle.paper.specs.Limits.{entryBytes, resultBytes, mostSubjects, mostStudents, mostResults, catalogueBytes, tableBytes, resultsBytes}
+use lib.ListN.{length, set}
+use Rattle.paper.specs.Limits.{entryBytes, resultBytes, mostSubjects, mostStudents, mostResults, resultsBytes}
 use Rattle.paper.specs.Words.{_=?_, if_then_else_}
-use Rattle.paper.specs.Bytes.{word}
-use Rattle.curve.specs.Population.{Y, rate}
+use Rattle.paper.specs.Bytes.{byte, word, long}
+use Rattle.paper.specs.Parts.{laid}
+use Rattle.paper.specs.Rulings.{accepted, Rule, judged}
+use Rattle.scores.specs.Rows.{cleared, stored}
+use Rattle.curve.specs.Population.{Y, rate, populationRules}
+use Rattle.fields.specs.declared.order.Far.{Far}
 use Rattle.cohort.specs.Taking.{figuresIn}
 use Rattle.cohort.specs.declared.steps.SoFar.{SoFar}
 
+-- no rule is broken
+abbrev pub Kept : List Rule → Type 0
+Kept rules = judged {A = Unit {0}} rules tt ≡ accepted tt
+
+-- 10 for 10, and 9 for another number
+abbrev pub nineOrTen : ℕ → ℕ
+nineOrTen n = if n =? 10 then 10 else 9
+
+-- what is noted: the score table and the ids
+abbrev pub tableWith : Far → ℕ → List ℕ → List ℕ → List ℕ
+tableWith far tag v table =
+    if tag =? 2 then cleared table (far .subjects)
+    else if tag =? 3 then stored table (word v 0) (byte v 2) (word v 3)
+    else table
+
+abbrev pub idsWith : Far → ℕ → List ℕ → List ℕ → List ℕ
+idsWith far tag v ids = if tag =? 5 then set ids (far .students) (long v 0) else ids
+
+-- the numbers
 abbrev pub yearTo : SoFar → List ℕ → SoFar
 yearTo so v = record { far = so .far; year = word v 0; results = so .results; population = so .population; rate = so .rate }
 
@@ -19,34 +42,41 @@ figuresTo so v = record { far = so .far; year = so .year; results = so .results;
 abbrev pub resultTo : SoFar → SoFar
 resultTo so = record { far = so .far; year = so .year; results = so .results + 1; population = so .population; rate = so .rate }
 
--- 10 for 10, and 9 for another number
-abbrev pub nineOrTen : ℕ → ℕ
-nineOrTen n = if n =? 10 then 10 else 9
+abbrev pub numbersWith : SoFar → ℕ → List ℕ → SoFar
+numbersWith so tag v = if tag =? 1 then yearTo so v else if tag =? 4 then figuresTo so v else if tag =? 6 then resultTo so else so
 
--- a subject more has room
-pub record SubjectRoom (so : SoFar) (v catalogue table : List ℕ) : Type 0 where
-  pub long : length v ≡ entryBytes
-  pub few : so .far .subjects < mostSubjects
-  pub catalogue-long : length catalogue ≡ catalogueBytes
-  pub table-long : length table ≡ tableBytes
+-- the buffers beside what is noted
+pub record Rest : Type 0 where
+  pub catalogue : List ℕ
+  pub figures : List ℕ
+  pub counts : List ℕ
+  pub results : List ℕ
 
--- the rows of the subjects are there
-pub record ScoreRoom (so : SoFar) (table : List ℕ) : Type 0 where
-  pub few : so .far .subjects ≤ mostSubjects
-  pub table-long : length table ≡ tableBytes
+abbrev pub rest : List ℕ → List ℕ → List ℕ → List ℕ → Rest
+rest a b c d = record { catalogue = a; figures = b; counts = c; results = d }
 
--- a student more has room
-pub record StudentRoom (so : SoFar) (ids counts : List ℕ) : Type 0 where
-  pub few : so .far .students < mostStudents
-  pub ids-long : length ids ≡ mostStudents
-  pub counts-long : length counts ≡ mostStudents
+abbrev pub restWith : SoFar → ℕ → List ℕ → Rest → Rest
+restWith so tag v b = record {
+  catalogue = if tag =? 2 then laid (b .catalogue) (so .far .subjects * entryBytes) v else b .catalogue;
+  figures = if tag =? 4 then figuresIn v else b .figures;
+  counts =
+      if tag =? 5 then set (b .counts) (so .far .students) 0
+      else if tag =? 6 then set (b .counts) (so .far .students - 1) (so .far .latest + 1)
+      else b .counts;
+  results = if tag =? 6 then laid (b .results) (so .results * resultBytes) v else b .results;
+}
 
 -- there is a student, and a result more has room
-pub record ResultRoom (so : SoFar) (v counts results : List ℕ) : Type 0 where
+pub record ResultRoom (so : SoFar) (v : List ℕ) : Type 0 where
   pub long : length v ≡ resultBytes
   pub met : 1 ≤ so .far .students
   pub few : so .far .students ≤ mostStudents
   pub few-results : so .far .latest < mostResults
   pub room : so .results * resultBytes + resultBytes ≤ resultsBytes
-  pub counts-long : length counts ≡ mostStudents
-  pub results-long : length results ≡ resultsBytes
+
+-- there is room for a field of each tag, and figures are accepted
+pub record Room (so : SoFar) (tag : ℕ) (v : List ℕ) : Type 0 where
+  pub subject : tag ≡ 2 → (length v ≡ entryBytes) × (so .far .subjects < mostSubjects)
+  pub figures : tag ≡ 4 → Kept (populationRules (figuresIn v))
+  pub student : tag ≡ 5 → so .far .students < mostStudents
+  pub result : tag ≡ 6 → ResultRoom so v

@@ -30,9 +30,6 @@ module _ (limit : ℕ) (far : Far) (tag long p : ℕ) (k : Unbroken (headRules l
   pub student-fits : tag ≡ 5 → far .students < mostStudents
   student-fits e = leb-false mostStudents (far .students) (at-tag 5 e .1 .1 .1 .0)
 
-  pub is-result : (tag ≡ 1 → ⊥) → (tag ≡ 2 → ⊥) → (tag ≡ 3 → ⊥) → (tag ≡ 4 → ⊥) → (tag ≡ 5 → ⊥) → tag ≡ 6
-  is-result a b c d e = omega (arith, range-kept 1 6 tag (k .0))
-
   pub result-fits : tag ≡ 6 → (long ≡ resultBytes) × (5 ≤ far .last) × (far .latest < limit)
   result-fits e = let h = at-tag 6 e in (equal-kept long resultBytes (h .1 .0), range-kept 5 6 (far .last) (h .1 .1 .0) .0, leb-false limit (far .latest) (h .1 .1 .1 .0))
 

@@ -1,4 +1,3 @@
 pub mod ByHandCounting
 pub mod ByHandResults
-pub mod Read
 pub mod Scores

@@ -1,6 +1,7 @@
-// Results by their position. Past the end of the bytes every part of a result is 0.
+// Results by their position, where they are lent.
 ghost use mathlib.Core.Path.{_≡_};
-ghost use Rattle.results.specs.Results.{resultOf, subjectOf, yearOf};
+ghost use Prim.Native.Nat.{_<_};
+ghost use Rattle.results.specs.Results.{heldIn, resultOf, subjectOf, yearOf};
 use catalogue::entries;
 use catalogue::entries::Entry;
 use paper::bytes;
@@ -15,15 +16,16 @@ pub struct Result {
     pub entry: Entry,
 }
 
-// Result i.
+// Result i, one of those that there are.
 pub fn result_at(catalogue: &[u8], results: &[u8], i: usize) -> Result
+    requires { ⌜ i < heldIn (now results) ⌝ }
     ensures { λ r. ⌜ r ≡ resultOf (now (catalogue .entry)) (now (results .entry)) i ⌝ }
 {
-    let at = bytes::record_at(results, RESULT_BYTES, i);
-    let subject = bytes::word_at(results, at);
-    let letter = bytes::byte_at(results, at + 2);
-    let number = bytes::byte_at(results, at + 3);
-    let year = bytes::word_at(results, at + 4);
+    let at = RESULT_BYTES * i;
+    let subject = subject_at(results, i);
+    let letter = results[at + 2];
+    let number = results[at + 3];
+    let year = year_at(results, i);
     let entry = entries::entry_at(catalogue, subject as usize);
     Result {
         subject,
@@ -34,15 +36,19 @@ pub fn result_at(catalogue: &[u8], results: &[u8], i: usize) -> Result
     }
 }
 
-// The subject of result i, and its year, where two results are compared.
+// Its subject, and its year, where two results are compared.
 pub fn subject_at(results: &[u8], i: usize) -> u16
+    requires { ⌜ i < heldIn (now results) ⌝ }
     ensures { λ r. ⌜ r ≡ subjectOf (now (results .entry)) i ⌝ }
 {
-    bytes::word_at(results, bytes::record_at(results, RESULT_BYTES, i))
+    let at = RESULT_BYTES * i;
+    bytes::word_of(results[at], results[at + 1])
 }
 
 pub fn year_at(results: &[u8], i: usize) -> u16
+    requires { ⌜ i < heldIn (now results) ⌝ }
     ensures { λ r. ⌜ r ≡ yearOf (now (results .entry)) i ⌝ }
 {
-    bytes::word_at(results, bytes::record_at(results, RESULT_BYTES, i) + 4)
+    let at = RESULT_BYTES * i;
+    bytes::word_of(results[at + 4], results[at + 5])
 }

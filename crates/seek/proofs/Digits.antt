@@ -1,5 +1,5 @@
 -- Laws of a set's bits and of its positions.
-use Prim.Native.Nat.{ℕ, zero, suc, _+_, _-_, _*_, _/_, _%_, _^_, _≤_, _<_, min}
+use Prim.Native.Nat.{ℕ, zero, suc, _+_, _-_, _*_, _/_, _%_, _^_, _≤_, _<_, min, max}
 use native.Mathlib.Nat.{eq-or-lt-of-le, div-one, div-eq-of-lt, div-lt-iff-lt-mul, mod-eq-of-lt, mod-lt, lt-of-not-le, lt-of-lt-of-le, lt-of-le-of-lt, add-zero, add-suc, suc-add, zero-add}
 use native.Mathlib.Numerals.{add-one, one-add}
 use native.Mathlib.Omega.{arith}
@@ -9,7 +9,7 @@ use mathlib.Core.List.{_∷_}
 use lib.ListN.{length}
 use lib.Arith.{lt-one}
 use lib.Pow.{pow-pos, pow-mono, split, shr-shr, high, shl-exact}
-use lib.Bits.{bitAnd, and-step, and-high, and-shr, and-zero-l, and-le-l, block-half, block-odd}
+use lib.Bits.{bitAnd, bitOr, bitXor, differ, and-step, or-step, xor-step, and-high, and-shr, or-shr, xor-shr, and-zero-l, and-le-l, block-half, block-odd}
 use lib.Count.{ones, onesIn, ones-step}
 use Rattle.paper.specs.Lists.{pick}
 use Rattle.paper.specs.Limits.{mostResults}
@@ -97,6 +97,46 @@ bit-and i a b =
     let s = and-step (a / 2 ^ i) (b / 2 ^ i) in
     let t : bitAnd (a / 2 ^ i) (b / 2 ^ i) % 2 ≡ min (bit i a) (bit i b) = omega arith in
     ap (λ (x : ℕ). x % 2) (and-shr a b i) ∙ t
+
+pub bit-or : (i a b : ℕ) → bit i (bitOr a b) ≡ max (bit i a) (bit i b)
+bit-or i a b =
+    let s = or-step (a / 2 ^ i) (b / 2 ^ i) in
+    let t : bitOr (a / 2 ^ i) (b / 2 ^ i) % 2 ≡ max (bit i a) (bit i b) = omega arith in
+    ap (λ (x : ℕ). x % 2) (or-shr a b i) ∙ t
+
+bit-xor : (i a b : ℕ) → bit i (bitXor a b) ≡ differ (bit i a) (bit i b) % 2
+bit-xor i a b =
+    let s = xor-step (a / 2 ^ i) (b / 2 ^ i) in
+    let t : bitXor (a / 2 ^ i) (b / 2 ^ i) % 2 ≡ differ (bit i a) (bit i b) % 2 = omega arith in
+    ap (λ (x : ℕ). x % 2) (xor-shr a b i) ∙ t
+
+-- who is in either of two masks, or in the one without the other
+pub in-or : (i a b : ℕ) → In i (bitOr a b) → In i a ⊎ In i b
+in-or i a b p = let e = bit-or i a b in ⊎-elim (λ (z : bit i a ≡ 0). inr (omega arith)) inl (digit (a / 2 ^ i))
+
+pub or-in : (i a b : ℕ) → In i a ⊎ In i b → In i (bitOr a b)
+or-in i a b p = let e = bit-or i a b in let m = digit (a / 2 ^ i) in let n = digit (b / 2 ^ i) in ⊎-elim (λ (q : In i a). omega arith) (λ (q : In i b). omega arith) p
+
+module _ (i a b : ℕ) where
+  bit-without : bit i (bitXor a (bitAnd a b)) ≡ differ (bit i a) (min (bit i a) (bit i b)) % 2
+  bit-without = bit-xor i a (bitAnd a b) ∙ ap (λ (x : ℕ). differ (bit i a) x % 2) (bit-and i a b)
+
+  pub in-without : In i (bitXor a (bitAnd a b)) → In i a × (In i b → ⊥)
+  in-without p = go (digit (a / 2 ^ i)) (digit (b / 2 ^ i)) (sym bit-without ∙ p)
+    where
+      go : (bit i a ≡ 0) ⊎ (bit i a ≡ 1) → (bit i b ≡ 0) ⊎ (bit i b ≡ 1) → differ (bit i a) (min (bit i a) (bit i b)) % 2 ≡ 1 → In i a × (In i b → ⊥)
+      go (inl x) y q = absurd (absurd-zero (rw x at q))
+        where
+          absurd-zero : min 0 (bit i b) % 2 ≡ 1 → ⊥
+          absurd-zero h = omega arith
+      go (inr x) (inl y) q = (x, λ z. omega arith)
+      go (inr x) (inr y) q = absurd (absurd-one (rw (x, y) at q))
+        where
+          absurd-one : 0 % 2 ≡ 1 → ⊥
+          absurd-one h = omega arith
+
+  pub without-in : In i a → (In i b → ⊥) → In i (bitXor a (bitAnd a b))
+  without-in p n = bit-without ∙ ⊎-elim (λ (y : bit i b ≡ 0). rw (p, y)) (λ (y : bit i b ≡ 1). absurd (n y)) (digit (b / 2 ^ i))
 
 -- `1 << i` at mostResults bits
 pub one-shl : (i : ℕ) → i < mostResults → 1 * 2 ^ i % 65536 ≡ 2 ^ i

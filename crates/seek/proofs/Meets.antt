@@ -11,34 +11,16 @@ use lib.Dec.{ltb}
 use borrow.Author.Tests.{ltb-true, ltb-false}
 use Rattle.paper.specs.Limits.{mostResults}
 use Rattle.seek.specs.Sets.{has, positions, countOver}
-use Rattle.seek.specs.InnerTest.{Apart, Decides, Beats}
+use Rattle.seek.specs.InnerTest.{Decides, Beats}
 use Rattle.seek.specs.declared.search.Lead.{Lead}
 use Rattle.seek.specs.declared.search.Lead.the-variants.{Leading, Nothing}
-use Rattle.seek.proofs.Digits.{length-ones, count-ones, meets, no-meet}
+use Rattle.seek.proofs.Digits.{length-ones, count-ones}
 
 pub length-set : (set : ℕ) → set < 2 ^ mostResults → length (positions set) ≡ ones set
 length-set set h = length-ones mostResults 0 set h
 
 pub count-set : (set mask : ℕ) → set < 2 ^ mostResults → countOver (has mask) (positions set) ≡ ones (bitAnd set mask)
 count-set set mask h = count-ones mostResults 0 set mask h ∙ ap (λ (x : ℕ). ones (bitAnd set x)) (div-one mask)
-
-module _ (set one other : ℕ) where
-  pub both : set < 2 ^ mostResults → (bitAnd set one ≡ 0 → ⊥) → (bitAnd set other ≡ 0 → ⊥) → Apart one other set → ⊥
-  both h p q n =
-      let x = meets mostResults set one h p in
-      let y = meets mostResults set other h q in
-      n (x .0) (y .0) (x .1 .0) (x .1 .1) (y .1 .0) (y .1 .1)
-
-  pub apart-one : bitAnd set one ≡ 0 → Apart one other set
-  apart-one z i j p q r s = no-meet set one i z p q
-
-  pub apart-other : bitAnd set other ≡ 0 → Apart one other set
-  apart-other z i j p q r s = no-meet set other j z r s
-
--- an answer to a test of P is one to a test of Q, where the one holds as the other does
-pub decide : (b : Bool) (P Q : Type 0) → (P → Q) → (Q → P) → Decides b P → Decides b Q
-decide true P Q f g d = f d
-decide false P Q f g d = λ q. d (g q)
 
 -- ---- a sum against the best so far
 

@@ -1,67 +1,45 @@
--- The test of a set, over what it reads by position, and what the search gives.
+-- The sets that are allowed, over what is known of the results by position, and what the search gives.
 use Prim.Native.Nat.{ℕ, _^_, _≤_, _<_}
 use mathlib.Core.Path.{_≡_}
 use mathlib.Core.Logic.{_⊎_}
 use mathlib.Core.Bool.{Bool, true, false}
-use lib.ListN.{length}
+use mathlib.Core.List.{List}
+use lib.ListN.{length, getD}
 use Rattle.paper.specs.Limits.{leastGeneral, members, mostResults}
 use Rattle.seek.specs.Sets.{In, has, positions, countOver, comesTo, Earlier}
-use Rattle.seek.specs.InnerPacking.{valueIn}
 use Rattle.seek.specs.declared.search.Test.{Test}
 use Rattle.seek.specs.declared.search.Lead.{Lead}
 use Rattle.seek.specs.declared.search.Lead.the-variants.{Leading, Nothing}
 
--- every member is one of the results held
-abbrev pub Below : ℕ → ℕ → Type 0
-Below held set = (i : ℕ) → In i set → i < held
+-- the number at a position; 0 past the list
+abbrev pub valueAt : List ℕ → ℕ → ℕ
+valueAt values i = getD values i 0
 
--- a set of results held, at most sixteen
-pub record OfHeld (held set : ℕ) : Type 0 where
-  pub few : held ≤ mostResults
-  pub below : Below held set
+-- no two members clash: for each result, the mask of those before it that may not stand in one set with it
+abbrev pub Apart : (ℕ → ℕ) → ℕ → Type 0
+Apart clash set = (i j : ℕ) → j < i → In i set → In j set → In j (clash i) → ⊥
 
--- a set of kept results, where those are of the results held
-pub record OfKept (mask held set : ℕ) : Type 0 where
-  pub few : held ≤ mostResults
-  pub among : Below held mask
-  pub kept : (i : ℕ) → In i set → In i mask
+-- of a set's members: five, at least four of them General
+pub record Counted (general set : ℕ) : Type 0 where
+  pub five : length (positions set) ≡ members
+  pub four : leastGeneral ≤ countOver (has general) (positions set)
 
--- not both a member that is in the one mask and a member that is in the other
-abbrev pub Apart : ℕ → ℕ → ℕ → Type 0
-Apart one other set = (i j : ℕ) → In i set → In i one → In j set → In j other → ⊥
-
--- no two members have one identity; 0 is none
-abbrev pub Distinct : (ℕ → ℕ) → ℕ → Type 0
-Distinct identities set = (i j : ℕ) → i < j → In i set → In j set → identities i ≡ identities j → identities i ≡ 0
-
--- result i has an identity, and a member after it the same
-pub record Shares (identities : ℕ → ℕ) (set i : ℕ) : Type 0 where
-  pub some : identities i ≡ 0 → ⊥
-  pub other : ℕ
-  pub later : i < other
-  pub member : In other set
-  pub same : identities i ≡ identities other
-
--- no member is too far from another: for each result the mask of those before it that are
-abbrev pub Near : (ℕ → ℕ) → ℕ → Type 0
-Near far set = (i j : ℕ) → In i set → In j set → In j (far i) → ⊥
-
--- an admissible set: five kept results, at least four of them General; not both a General and an Applied of English; not both of Mathematics;
--- no two with one identity; no two too far from each other
-pub record Allowed (test : Test) (set : ℕ) : Type 0 where
+-- the kept and the General results, the clashes of each, a set: it has five kept results, at least four of them General, and no two clash
+pub record Allowed (test : Test) (clash : ℕ → ℕ) (set : ℕ) : Type 0 where
   pub small : set < 2 ^ mostResults
   pub kept : (i : ℕ) → In i set → In i (test .kept)
-  pub five : length (positions set) ≡ members
-  pub general : leastGeneral ≤ countOver (has (test .general)) (positions set)
-  pub english : Apart (test .«general_english») (test .«applied_english») set
-  pub maths : Apart (test .«general_maths») (test .«applied_maths») set
-  pub distinct : Distinct (valueIn (test .identities)) set
-  pub near : Near (valueIn (test .far)) set
+  pub counted : Counted (test .general) set
+  pub apart : Apart clash set
 
--- a result may join a set, and then it is kept; or may not, and then no admissible set has it beside the members
-abbrev pub MayJoin : Test → ℕ → ℕ → Bool → Type 0
-MayJoin test set i true = In i (test .kept)
-MayJoin test set i false = (t : ℕ) → Allowed test t → ((j : ℕ) → In j set → In j t) → In i t → ⊥
+-- result i is kept, and clashes with no member of a set of results before it
+pub record Joins (mask : ℕ) (clash : ℕ → ℕ) (set i : ℕ) : Type 0 where
+  pub kept : In i mask
+  pub apart : (j : ℕ) → In j set → In j (clash i) → ⊥
+
+-- a result joins a set, or it does not, and then no allowed set has it beside the members
+abbrev pub MayJoin : Test → (ℕ → ℕ) → ℕ → ℕ → Bool → Type 0
+MayJoin test clash set i true = Joins (test .kept) clash set i
+MayJoin test clash set i false = (t : ℕ) → Allowed test clash t → ((j : ℕ) → In j set → In j t) → In i t → ⊥
 
 -- a test's answer
 abbrev pub Decides : Bool → Type 0 → Type 0

@@ -1,4 +1,3 @@
 pub mod Sets
-pub mod InnerPacking
 pub mod InnerTest
 pub mod InnerSearch

@@ -1,3 +1,2 @@
-// The search for the best set, over any scores, for what a test of sets admits.
-pub mod packing;
+// The search for the best set, over any scores and any clashes of results.
 pub mod search;

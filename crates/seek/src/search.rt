@@ -1,12 +1,10 @@
-// The search for the best set: those of five kept results are tried in dictionary order of their positions, up to three members by stepping, the fourth and
-// the fifth by loops; but not those whose first three are too far from each other in years. `held` is the number of results.
-ghost use Prim.Native.Nat.{_<_};
+// The search for the best set: those of five kept results, no two of which clash, are tried in dictionary order of their positions, up to three members
+// by stepping, the fourth and the fifth by loops; a set is left as soon as a result clashes with a member. `clashes` and `scores` are by position,
+// `clashes` with bit j for each result j before that may not stand in one set with it; `held` is the number of results.
+ghost use Prim.Native.Nat.{_<_, _^_};
 ghost use Rattle.paper.specs.Limits.{mostResults};
-ghost use Rattle.seek.specs.InnerPacking.{valueIn, valueAt};
-ghost use Rattle.seek.specs.InnerTest.{OfHeld, OfKept, Distinct, Shares, Near, Allowed, MayJoin, Decides, Beats, Answers};
-ghost use Rattle.seek.specs.InnerSearch.{Sought, key, Tried, StandsWith, Bettered};
-use crate::packing;
-use crate::packing::Packed;
+ghost use Rattle.seek.specs.InnerTest.{valueAt, Counted, Allowed, MayJoin, Decides, Beats, Answers};
+ghost use Rattle.seek.specs.InnerSearch.{Sought, key, Tried, StandsWith, Follows, Bettered};
 use paper::limits::LEAST_GENERAL;
 use paper::limits::MEMBERS;
 use paper::limits::MOST_RESULTS;
@@ -17,19 +15,10 @@ const MEMBER_COUNT: usize = MEMBERS as usize;
 // Those that the search steps to; the last two are tried in loops.
 const STEPPED: usize = MEMBER_COUNT - 2;
 
-// What the test of a set reads: the kept results and those of each sort that the rules of sets ask for, bit i for result i; and by position the
-// identities, 0 where there is none, and the results before each that are too far from it in years, bit j for result j. `spread` says whether there
-// are any: of a student whose results are of few years those are not looked up for each result that joins.
+// The kept results, and those that are General: bit i for result i.
 pub struct Test {
     pub kept: u16,
     pub general: u16,
-    pub general_english: u16,
-    pub applied_english: u16,
-    pub general_maths: u16,
-    pub applied_maths: u16,
-    pub identities: Packed,
-    pub far: Packed,
-    pub spread: bool,
 }
 
 // The best set so far with its sum, or none.
@@ -38,91 +27,29 @@ pub enum Lead {
     Nothing,
 }
 
-// Whether a member after result i has its identity.
-fn shares_later(identities: Packed, held: usize, set: u16, i: usize) -> bool
-    requires { ⌜ (i < mostResults) × OfHeld held set ⌝ }
-    ensures { λ r. ⌜ Decides r (Shares (valueIn identities) set i) ⌝ }
-{
-    let own = packing::value_in(identities, i);
-    if own == 0 {
-        return false;
-    }
-    let mut j: usize = i + 1;
-    while j < held {
-        if set & (1u16 << j) != 0 && packing::value_in(identities, j) == own {
-            return true;
-        }
-        j += 1;
-    }
-    false
-}
-
-// Whether no two members have one identity.
-fn distinct(identities: Packed, held: usize, set: u16) -> bool
-    requires { ⌜ OfHeld held set ⌝ }
-    ensures { λ r. ⌜ Decides r (Distinct (valueIn identities) set) ⌝ }
-{
-    let mut i: usize = 0;
-    while i < held {
-        if set & (1u16 << i) != 0 && shares_later(identities, held, set, i) {
-            return false;
-        }
-        i += 1;
-    }
-    true
-}
-
-// Whether no member is too far from one before it.
-fn near(far: Packed, held: usize, set: u16) -> bool
-    requires { ⌜ OfHeld held set ⌝ }
-    ensures { λ r. ⌜ Decides r (Near (valueIn far) set) ⌝ }
-{
-    let mut i: usize = 0;
-    while i < held {
-        if set & (1u16 << i) != 0 && set & packing::value_in(far, i) != 0 {
-            return false;
-        }
-        i += 1;
-    }
-    true
-}
-
-// Whether result i may join a set of results before it: it is kept, and no member is too far from it.
-fn may_join(test: Test, set: u16, i: usize) -> bool
-    requires { ⌜ i < mostResults ⌝ }
-    ensures { λ r. ⌜ MayJoin test set i r ⌝ }
+// Whether result i may join a set of results before it: it is kept, and clashes with no member.
+fn may_join(test: Test, clashes: &[u16; MOST_RESULTS], set: u16, i: usize) -> bool
+    requires { ⌜ Follows set i ⌝ }
+    ensures { λ r. ⌜ MayJoin test (valueAt (now (clashes .entry))) set i r ⌝ }
 {
     if test.kept & (1u16 << i) == 0 {
         return false;
     }
-    if !test.spread {
-        return true;
-    }
-    set & packing::value_in(test.far, i) == 0
+    set & clashes[i] == 0
 }
 
-// Whether a set of kept results is admissible.
-fn admissible(test: Test, held: usize, set: u16) -> bool
-    requires { ⌜ OfKept (test .kept) held set ⌝ }
-    ensures { λ r. ⌜ Decides r (Allowed test set) ⌝ }
+// Whether a set has five members, at least four of them General.
+fn counted(general: u16, set: u16) -> bool
+    ensures { λ r. ⌜ Decides r (Counted general set) ⌝ }
 {
-    // The search tries fives alone; the rule is tested all the same, so that the whole test stands here.
+    // The search tries fives alone; that is tested all the same, so that both counts stand here.
     if u16::count_ones(set) != MEMBERS {
         return false;
     }
-    if u16::count_ones(set & test.general) < LEAST_GENERAL {
+    if u16::count_ones(set & general) < LEAST_GENERAL {
         return false;
     }
-    if set & test.general_english != 0 && set & test.applied_english != 0 {
-        return false;
-    }
-    if set & test.general_maths != 0 && set & test.applied_maths != 0 {
-        return false;
-    }
-    if !near(test.far, held, set) {
-        return false;
-    }
-    distinct(test.identities, held, set)
+    true
 }
 
 // Whether a sum is more than the best so far.
@@ -135,21 +62,39 @@ fn beats(best: Lead, sum: u32) -> bool
     }
 }
 
-// The best with one set more.
-fn better(test: Test, held: usize, best: Lead, set: u16, sum: u32) -> Lead
-    requires { ⌜ OfKept (test .kept) held set ⌝ }
-    ensures { λ r. ⌜ Bettered (Allowed test) best set sum r ⌝ }
+// The best with the set that goes on from a set of four by result i, and comes to this sum.
+fn better(
+    test: Test,
+    clashes: &[u16; MOST_RESULTS],
+    best: Lead,
+    set: u16,
+    i: usize,
+    sum: u32,
+) -> Lead
+    requires { ⌜ Follows set i ⌝ }
+    ensures { λ r. ⌜ Bettered test (valueAt (now (clashes .entry))) best set i sum r ⌝ }
 {
-    // The sum first: it is the cheaper test.
-    if beats(best, sum) && admissible(test, held, set) {
-        return Lead::Leading { total: sum, set };
+    // The sum first: it is the cheaper test, and few sets come to more than the best.
+    if !beats(best, sum) {
+        return best;
     }
-    best
+    if !may_join(test, clashes, set, i) {
+        return best;
+    }
+    let whole = set | (1u16 << i);
+    if !counted(test.general, whole) {
+        return best;
+    }
+    Lead::Leading {
+        total: sum,
+        set: whole,
+    }
 }
 
 // The best with every set that goes on from a set of four by a result from `at` on.
 fn with_fifth(
     test: Test,
+    clashes: &[u16; MOST_RESULTS],
     scores: &[u32; MOST_RESULTS],
     held: usize,
     best: Lead,
@@ -157,15 +102,13 @@ fn with_fifth(
     sum: u32,
     at: usize,
 ) -> Lead
-    requires { ⌜ StandsWith 4 (Allowed test) (now scores) (test .kept) held best at set sum ⌝ }
-    ensures { λ r. ⌜ Tried (Allowed test) (valueAt (now (scores .entry))) (key mostResults set) r ⌝ }
+    requires { ⌜ StandsWith 4 test (valueAt (now clashes)) (now scores) held best at set sum ⌝ }
+    ensures { λ r. ⌜ Tried (Allowed test (valueAt (now (clashes .entry)))) (valueAt (now (scores .entry))) (key mostResults set) r ⌝ }
 {
     let mut best = best;
     let mut i = at;
     while i < held {
-        if test.kept & (1u16 << i) != 0 {
-            best = better(test, held, best, set | (1u16 << i), sum + scores[i]);
-        }
+        best = better(test, clashes, best, set, i, sum + scores[i]);
         i += 1;
     }
     best
@@ -174,6 +117,7 @@ fn with_fifth(
 // The best with every set that goes on from a set of three by two results from `at` on.
 fn with_fourth(
     test: Test,
+    clashes: &[u16; MOST_RESULTS],
     scores: &[u32; MOST_RESULTS],
     held: usize,
     best: Lead,
@@ -181,26 +125,40 @@ fn with_fourth(
     sum: u32,
     at: usize,
 ) -> Lead
-    requires { ⌜ StandsWith 3 (Allowed test) (now scores) (test .kept) held best at set sum ⌝ }
-    ensures { λ r. ⌜ Tried (Allowed test) (valueAt (now (scores .entry))) (key mostResults set) r ⌝ }
+    requires { ⌜ StandsWith 3 test (valueAt (now clashes)) (now scores) held best at set sum ⌝ }
+    ensures { λ r. ⌜ Tried (Allowed test (valueAt (now (clashes .entry)))) (valueAt (now (scores .entry))) (key mostResults set) r ⌝ }
 {
     let mut best = best;
     let mut i = at;
     // Up to the last but one: a fifth comes after it.
     while i + 1 < held {
-        if test.kept & (1u16 << i) != 0 {
+        if may_join(test, clashes, set, i) {
             let four = set | (1u16 << i);
-            best = with_fifth(test, scores, held, best, four, sum + scores[i], i + 1);
+            best = with_fifth(
+                test,
+                clashes,
+                scores,
+                held,
+                best,
+                four,
+                sum + scores[i],
+                i + 1,
+            );
         }
         i += 1;
     }
     best
 }
 
-// The best of the admissible sets, the first of those that tie.
-pub fn search(test: Test, scores: &[u32; MOST_RESULTS], held: usize) -> Lead
+// The best of the allowed sets, the first of those that tie.
+pub fn search(
+    test: Test,
+    clashes: &[u16; MOST_RESULTS],
+    scores: &[u32; MOST_RESULTS],
+    held: usize,
+) -> Lead
     requires { ⌜ Sought (test .kept) (now scores) held ⌝ }
-    ensures { λ r. ⌜ Answers (Allowed test) (valueAt (now (scores .entry))) r ⌝ }
+    ensures { λ r. ⌜ Answers (Allowed test (valueAt (now (clashes .entry)))) (valueAt (now (scores .entry))) r ⌝ }
 {
     let mut best = Lead::Nothing;
     let mut set: u16 = 0;
@@ -210,14 +168,14 @@ pub fn search(test: Test, scores: &[u32; MOST_RESULTS], held: usize) -> Lead
         let members = u16::count_ones(set) as usize;
         if members < STEPPED && at + MEMBER_COUNT <= held + members {
             // members and results left can come to five: result `at` joins, if it may
-            if may_join(test, set, at) {
+            if may_join(test, clashes, set, at) {
                 set = set | (1u16 << at);
                 sum += scores[at];
             }
             at += 1;
         } else {
             if members == STEPPED {
-                best = with_fourth(test, scores, held, best, set, sum, at);
+                best = with_fourth(test, clashes, scores, held, best, set, sum, at);
             }
             // the last member leaves, and the results after it are open again
             'back: loop {

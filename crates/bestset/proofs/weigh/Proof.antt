@@ -1,32 +1,27 @@
+use Rattle.bestset.proofs.Clashing.{TestOf, testOf, test-of}
+use Rattle.bestset.proofs.Usable.{none-shown, some-shown}
+use Rattle.bestset.specs.declared.marks.Reading.the-variants.{All}
+use Rattle.bestset.specs.declared.marks.Masks.{Masks}
+use Rattle.bestset.specs.InnerPairs.{AllCompared}
+use Rattle.bestset.specs.InnerMarks.{ReadAs, outcome}
+use Rattle.bestset.specs.Promise.{WellFormed, Answered}
+use Rattle.seek.specs.InnerTest.{valueAt}
+use Rattle.paper.proofs.Promised.{saying}
+use Rattle.bestset.proofs.Bridge.{promise-wrong, promise-again, well-formed, promise-english, answered-ruled, sought, found-answered}
+use Rattle.bestset.proofs.Marking.{zeros-at}
+use Rattle.bestset.proofs.Judging.{few-begun}
+use Rattle.results.specs.Results.{Student, student}
+use Rattle.paper.specs.Limits.{mostResults}
 use mathlib.Core.List.{List}
 use Prim.Native.Nat.{ℕ}
-use Rattle.paper.proofs.Promised.{saying}
-use Rattle.bestset.proofs.Bridge.{promise-again, well-formed, promise-english, answered-ruled}
-use Rattle.bestset.proofs.Usable.{none-shown, some-shown}
-use Rattle.bestset.proofs.Judging.{few-read}
-use Rattle.results.specs.Results.{Student, student}
-use Rattle.bestset.specs.Promise.{WellFormed}
+use mathlib.Core.Path.{refl}
+use borrow.Author.Needs.{needs}
 use Rattle.bestset.proofs.weigh.Statement.{statement}
 use Rattle.bestset.proofs.weigh.Tie as tie
-use Rattle.bestset.proofs.choose.Reads as choose-reads
 use Rattle.bestset.proofs.marks.read_all.Reads as read-all-reads
-use Rattle.bestset.proofs.repeats.first_repeated.Reads as first-repeated-reads
-
--- the places: the start; where all is read, where the first repeated is known, and where there is none
-abbrev start : tie.After-shared-slice-known3 → tie.Start
-start c = c .before .before .before
-
-abbrev begun : tie.After-read-all → tie.Start
-begun c = start (c .before)
-
-abbrev read : tie.After-first-repeated → tie.After-read-all
-read c = c .before .before
-
-abbrev first : tie.Else1 → tie.After-read-all
-first c = read (c .before)
-
-abbrev unrepeated : tie.Else2 → tie.Else1
-unrepeated c = c .before .before
+use Rattle.bestset.proofs.pairs.compare.Reads as compare-reads
+use Rattle.bestset.proofs.told.Reads as told-reads
+use Rattle.seek.proofs.search.search.Reads as search-reads
 
 -- the student and the table
 module _ (s : tie.Start) where
@@ -36,54 +31,114 @@ module _ (s : tie.Start) where
   abbrev table : List ℕ
   table = s .args .table .now
 
--- where none is repeated the student is well-formed
-formed : (c : tie.Else1) → let s = begun (first c) in WellFormed (who s) (table s)
-formed c =
-    let s = begun (first c) in
-    let f = c .before .first-repeated in
-    well-formed (who s) (table s) (s .pre) _ (first c .read-all .ensures .masks-are .usable-are) (f .result) (f .ensures) (c .if1 .left)
+-- where all results are read: the start, the masks and the numbers by position
+module _ (c : tie.After-clashes) where
+  abbrev start : tie.Start
+  start = c .before .before .before .before .before .before .before .before .before .before .before
+
+  abbrev masks : Masks
+  masks = c .before .before .before .reading2 .given .0 .0
+
+  abbrev scores : List ℕ
+  scores = c .before .before .before .before .before .read-all .last .1 .1 .1 .1 .0
+
+  abbrev identities : List ℕ
+  identities = c .before .before .before .before .before .read-all .last .1 .1 .1 .1 .1 .0
+
+  read : ReadAs (who start) (table start) (All masks) scores identities
+  read = rw (c .before .before .before .reading2 .given .1) at (c .before .before .before .before .before .read-all .ensures)
+
+-- where they are compared, and none is repeated: the kept ones and the clashes of each; the student is well-formed
+module _ (c : tie.After-struct-known) where
+  abbrev at-clashes : tie.After-clashes
+  at-clashes = c .before .before .before .before .before
+
+  abbrev begun : tie.Start
+  begun = start at-clashes
+
+  abbrev kept : ℕ
+  kept = c .before .before .compared2 .given .0 .0
+
+  abbrev clashes : List ℕ
+  clashes = c .before .before .before .before .compare .last .1 .1 .1 .0
+
+  compared : AllCompared (begun .args .results .now) (masks at-clashes) (identities at-clashes) kept clashes
+  compared = rw (c .before .before .compared2 .given .1) at (c .before .before .before .before .compare .ensures)
+
+  formed : WellFormed (who begun) (table begun)
+  formed = well-formed (who begun) (table begun) (begun .pre) (read at-clashes .0) (masks at-clashes .usable) (read at-clashes .1 .masks-are .usable-are) (compared .none-again)
+
+  tested : TestOf (who begun) (testOf kept (masks at-clashes)) (valueAt clashes)
+  tested = test-of (who begun) (table begun) (masks at-clashes) (scores at-clashes) (identities at-clashes) kept clashes (read at-clashes .1) compared
 
 read-all-requires : tie.Need-read-all-requires
 read-all-requires c κs =
-    let s = start c in
-    few-read (who s) (table s) (s .pre)
+    let s = c .before .before .before .before .before in
+    record { few = few-begun (who s) (table s) (s .pre); no-scores = record { sized = refl; empty = zeros-at mostResults }; no-identities = record { sized = refl; empty = zeros-at mostResults } }
 
-first-repeated-requires : tie.Need-first-repeated-requires
-first-repeated-requires c κs =
-    let s = begun (c .before) in
-    few-read (who s) (table s) (s .pre)
+enum-known-reading : tie.Need-enum-known-reading
+enum-known-reading c = search needs
 
 returns : tie.Need-returns
 returns c =
-    let f = c .before .first-repeated in
-    let d = read (c .before) in
-    let s = begun d in
-    promise-again (who s) (table s) (s .pre) _ (d .read-all .ensures .masks-are .usable-are) (f .result) (f .ensures) (c .if1 .taken)
+    let s = c .before .before .before .before .before .before .before .before .before in
+    promise-wrong (who s) (table s) (s .pre) _ (rw (c .before .reading .given .1) at (c .before .before .before .read-all .ensures))
+
+enum-known-reading-2 : tie.Need-enum-known-reading-2
+enum-known-reading-2 c = search needs
+
+compare-requires : tie.Need-compare-requires
+compare-requires c κs =
+    let s = c .before .before .before .before .before .before .before .before .before .before .before in
+    record { few = few-begun (who s) (table s) (s .pre); sized = refl }
+
+enum-known-compared : tie.Need-enum-known-compared
+enum-known-compared c = search needs
 
 returns-2 : tie.Need-returns-2
 returns-2 c =
-    let d = c .before .before in
-    let s = begun (first d) in
-    promise-english (who s) (table s) (formed d) (none-shown (who s) _ (first d .read-all .ensures .masks-are .passes-are) (c .if2 .taken))
+    let d = c .before .before .before .before in
+    let s = start d in
+    promise-again (who s) (table s) (s .pre) (read d .0) (masks d .usable) (read d .1 .masks-are .usable-are) _ (rw (c .before .compared .given .1) at (c .before .before .before .compare .ensures))
 
-choose-requires : tie.Need-choose-requires
-choose-requires c κs =
-    let d = unrepeated c in
-    record { formed = formed d; all = first d .read-all .ensures }
+enum-known-compared-2 : tie.Need-enum-known-compared-2
+enum-known-compared-2 c = search needs
 
 returns-3 : tie.Need-returns-3
 returns-3 c =
-    let d = unrepeated (c .before) in
-    let s = begun (first d) in
-    saying (answered-ruled (who s) (table s) (formed d) (some-shown (who s) _ (first d .read-all .ensures .masks-are .passes-are) (c .before .if2 .left)) _ (c .choose .ensures))
+    let d = c .before in
+    let s = begun d in
+    promise-english (who s) (table s) (formed d) (none-shown (who s) _ (read (at-clashes d) .1 .masks-are .passes-are) (c .if1 .taken))
+
+search-requires : tie.Need-search-requires
+search-requires c κs =
+    let d = c .before .before .before in
+    let s = begun d in
+    sought (who s) (table s) (formed d) (testOf (kept d) (masks (at-clashes d))) (valueAt (clashes d)) (tested d) (scores (at-clashes d)) (read (at-clashes d) .1 .scores-are)
+
+told-requires : tie.Need-told-requires
+told-requires c κs = search needs
+
+returns-4 : tie.Need-returns-4
+returns-4 c =
+    let d = c .before .before .before .before .before in
+    let s = begun d in
+    let found : Answered (who s) (table s) (outcome (c .before .search .result)) = found-answered (who s) (table s) (formed d) (testOf (kept d) (masks (at-clashes d))) (valueAt (clashes d)) (tested d) (scores (at-clashes d)) (read (at-clashes d) .1 .scores-are) (c .before .search .result) (c .before .search .ensures) in
+    saying (answered-ruled (who s) (table s) (formed d) (some-shown (who s) _ (read (at-clashes d) .1 .masks-are .passes-are) (c .before .before .before .before .if1 .left)) _ (rw (c .told .ensures) found))
 
 pub weigh-spec : {M : Type 1} → statement M
 weigh-spec =
     tie.close
     (tie.spec
     read-all-requires
-    first-repeated-requires
+    enum-known-reading
     returns
+    enum-known-reading-2
+    compare-requires
+    enum-known-compared
     returns-2
-    choose-requires
-    returns-3)
+    enum-known-compared-2
+    returns-3
+    search-requires
+    told-requires
+    returns-4)

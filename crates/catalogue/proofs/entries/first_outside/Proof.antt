@@ -8,7 +8,7 @@ use Prim.Native.Nat.{ℕ, _-_, _≤_, _<_}
 use borrow.Author.Needs.{needs}
 use Rattle.catalogue.proofs.entries.first_outside.Statement.{statement}
 use Rattle.catalogue.proofs.entries.first_outside.Tie as tie
-use Rattle.catalogue.proofs.entries.entry_at.Reads as entry-at-reads
+use Rattle.catalogue.proofs.entries.known_entry.Reads as known-entry-reads
 use Rattle.catalogue.proofs.entries.is_outside.Reads as is-outside-reads
 
 -- none of the entries passed is outside its ranges
@@ -21,14 +21,14 @@ abbrev μ-loop : tie.MeasureT-loop
 loop-holds : tie.Need-loop-holds Inv-loop μ-loop
 loop-holds c = (omega arith, λ j l. absurd (omega arith))
 
-entry-at-requires : tie.Need-entry-at-requires Inv-loop μ-loop
-entry-at-requires c κs = search needs
+known-entry-requires : tie.Need-known-entry-requires Inv-loop μ-loop
+known-entry-requires c κs = search needs
 
 is-outside-requires : tie.Need-is-outside-requires Inv-loop μ-loop
 is-outside-requires c κs = search needs
 
 returns : tie.Need-returns Inv-loop μ-loop
-returns c = sym (first-here _ (outsideAt (c .before .before .before .before .before .before .args .catalogue .now)) _ (omega arith) (c .before .before .before .before .loop .inv .1) (ap outside (sym (c .before .before .entry-at .ensures)) ∙ sym (c .before .is-outside .ensures) ∙ c .if1 .taken))
+returns c = sym (first-here _ (outsideAt (c .before .before .before .before .before .before .args .catalogue .now)) _ (omega arith) (c .before .before .before .before .loop .inv .1) (ap outside (sym (c .before .before .known-entry .ensures)) ∙ sym (c .before .is-outside .ensures) ∙ c .if1 .taken))
 
 add-i : tie.Need-add-i Inv-loop μ-loop
 add-i c = search needs
@@ -37,7 +37,7 @@ loop-less : tie.Need-loop-less Inv-loop μ-loop
 loop-less c = search needs
 
 loop-again : tie.Need-loop-again Inv-loop μ-loop
-loop-again c = (omega arith, below-more _ _ (c .before .before .before .before .loop .inv .1) (ap outside (sym (c .before .before .entry-at .ensures)) ∙ sym (c .before .is-outside .ensures) ∙ c .if1 .left))
+loop-again c = (omega arith, below-more _ _ (c .before .before .before .before .loop .inv .1) (ap outside (sym (c .before .before .known-entry .ensures)) ∙ sym (c .before .is-outside .ensures) ∙ c .if1 .left))
 
 returns-2 : tie.Need-returns-2 Inv-loop μ-loop
 returns-2 c =
@@ -51,7 +51,7 @@ first-outside-spec =
     Inv-loop
     μ-loop
     loop-holds
-    entry-at-requires
+    known-entry-requires
     is-outside-requires
     returns
     add-i

@@ -1,18 +1,35 @@
-use Rattle.results.proofs.Read.{subject-read}
+use Rattle.paper.specs.Bytes.{word}
 use borrow.Author.Needs.{needs}
 use Rattle.results.proofs.reading.subject_at.Statement.{statement}
 use Rattle.results.proofs.reading.subject_at.Tie as tie
-use Rattle.paper.proofs.bytes.record_at.Reads as record-at-reads
-use Rattle.paper.proofs.bytes.word_at.Reads as word-at-reads
+use Rattle.paper.proofs.bytes.word_of.Reads as word-of-reads
 
-record-at-requires : tie.Need-record-at-requires
-record-at-requires c κs = search needs
+mul-at : tie.Need-mul-at
+mul-at c = search needs
 
-word-at-requires : tie.Need-word-at-requires
-word-at-requires c κs = search needs
+shared-slice-read-word-of : tie.Need-shared-slice-read-word-of
+shared-slice-read-word-of c = search needs
+
+add-word-of : tie.Need-add-word-of
+add-word-of c = search needs
+
+shared-slice-read-word-of-2 : tie.Need-shared-slice-read-word-of-2
+shared-slice-read-word-of-2 c = search needs
+
+word-of-requires : tie.Need-word-of-requires
+word-of-requires c κs = search needs
 
 returns : tie.Need-returns
-returns c = rw (c .word-at .ensures, c .before .record-at .ensures) (subject-read (c .before .before .before .args .results .now) (c .before .before .before .args .i))
+unfolding word
+returns c = rw (c .word-of .ensures)
 
 pub subject-at-spec : {M : Type 1} → statement M
-subject-at-spec = tie.close (tie.spec record-at-requires word-at-requires returns)
+subject-at-spec =
+    tie.close
+    (tie.spec
+    mul-at
+    shared-slice-read-word-of
+    add-word-of
+    shared-slice-read-word-of-2
+    word-of-requires
+    returns)

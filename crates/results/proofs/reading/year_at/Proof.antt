@@ -1,23 +1,43 @@
-use native.Mathlib.Omega.{arith}
+use Rattle.paper.specs.Bytes.{word}
 use Rattle.paper.specs.Limits.{resultBytes}
-use Rattle.paper.proofs.Written.{record-within, word-record}
+use Prim.Native.Nat.{_+_, _*_}
+use mathlib.Core.Path.{_≡_}
+use native.Mathlib.Omega.{arith}
 use borrow.Author.Needs.{needs}
 use Rattle.results.proofs.reading.year_at.Statement.{statement}
 use Rattle.results.proofs.reading.year_at.Tie as tie
-use Rattle.paper.proofs.bytes.record_at.Reads as record-at-reads
-use Rattle.paper.proofs.bytes.word_at.Reads as word-at-reads
+use Rattle.paper.proofs.bytes.word_of.Reads as word-of-reads
 
-record-at-requires : tie.Need-record-at-requires
-record-at-requires c κs = search needs
+mul-at : tie.Need-mul-at
+mul-at c = search needs
 
-add-word-at : tie.Need-add-word-at
-add-word-at c = omega (arith, record-within (c .before .before .args .results .now) resultBytes (c .before .before .args .i))
+add-word-of : tie.Need-add-word-of
+add-word-of c = search needs
 
-word-at-requires : tie.Need-word-at-requires
-word-at-requires c κs = search needs
+shared-slice-read-word-of : tie.Need-shared-slice-read-word-of
+shared-slice-read-word-of c = search needs
+
+add-word-of-2 : tie.Need-add-word-of-2
+add-word-of-2 c = search needs
+
+shared-slice-read-word-of-2 : tie.Need-shared-slice-read-word-of-2
+shared-slice-read-word-of-2 c = search needs
+
+word-of-requires : tie.Need-word-of-requires
+word-of-requires c κs = search needs
 
 returns : tie.Need-returns
-returns c = rw (c .word-at .ensures, c .before .record-at .ensures) (word-record (c .before .before .before .args .results .now) resultBytes (c .before .before .before .args .i) 4)
+unfolding word
+returns c = let next : resultBytes * c .before .before .before .before .args .i + 5 ≡ resultBytes * c .before .before .before .before .args .i + 4 + 1 = omega arith in rw (c .word-of .ensures, next)
 
 pub year-at-spec : {M : Type 1} → statement M
-year-at-spec = tie.close (tie.spec record-at-requires add-word-at word-at-requires returns)
+year-at-spec =
+    tie.close
+    (tie.spec
+    mul-at
+    add-word-of
+    shared-slice-read-word-of
+    add-word-of-2
+    shared-slice-read-word-of-2
+    word-of-requires
+    returns)

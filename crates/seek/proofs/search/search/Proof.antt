@@ -1,8 +1,7 @@
-use Rattle.seek.proofs.Steps.{fives, left, starts, short, passes-over, more, joins, back, out-most, out-fewer, out, out-less, finish, sum-fits, skip-less, join-less}
+use Rattle.seek.proofs.Steps.{held-in, left, starts, short, passes-over, more, joins, back, out-most, out-fewer, out, out-less, finish, sum-fits, skip-less, join-less}
 use Rattle.seek.proofs.Digits.{test-in, test-out}
 use Rattle.seek.specs.InnerSearch.{key, room, Tried, Stands}
-use Rattle.seek.specs.InnerPacking.{valueAt}
-use Rattle.seek.specs.InnerTest.{Allowed}
+use Rattle.seek.specs.InnerTest.{valueAt, Allowed, Joins}
 use Rattle.seek.specs.Sets.{In}
 use borrow.Author.Tests.{leb-true, leb-false}
 use lib.Count.{ones}
@@ -19,17 +18,17 @@ use Rattle.seek.proofs.search.with_fourth.Reads as with-fourth-reads
 
 -- the results after the last member are open again down to `at`, and the best is that of the sets tried: all that go on from the set, and those before them
 abbrev Inv-back : tie.InvT-back
-Inv-back test scores held best set₀ sum₀ at₀ members set sum at = (set ≡ set₀) × (ones set ≤ 3) × Stands (Allowed test) (valueAt scores) (test .kept) held (key mostResults set) best at set sum
+Inv-back test clashes scores held best set₀ sum₀ at₀ members set sum at = (set ≡ set₀) × (ones set ≤ 3) × Stands test (valueAt clashes) (valueAt scores) held (key mostResults set) best at set sum
 
 abbrev μ-back : tie.MeasureT-back
-μ-back test scores held best set₀ sum₀ at₀ members set sum at = at
+μ-back test clashes scores held best set₀ sum₀ at₀ members set sum at = at
 
 -- the best is that of the sets tried: all but those that go on from the set at which the search stands by results from `at` on, and those after them
 abbrev Inv-sets : tie.InvT-sets
-Inv-sets test scores held best₀ set₀ sum₀ at₀ best set sum at = (ones set ≤ 3) × Stands (Allowed test) (valueAt scores) (test .kept) held (room at set) best at set sum
+Inv-sets test clashes scores held best₀ set₀ sum₀ at₀ best set sum at = (ones set ≤ 3) × Stands test (valueAt clashes) (valueAt scores) held (room at set) best at set sum
 
 abbrev μ-sets : tie.MeasureT-sets
-μ-sets test scores held best₀ set₀ sum₀ at₀ best set sum at = left at set
+μ-sets test clashes scores held best₀ set₀ sum₀ at₀ best set sum at = left at set
 
 -- the places: at a set; where a result can join it, where one that may does, and after; where none can, and after the sets of three; where the last member leaves
 abbrev joining : tie.Then2 Inv-back μ-back Inv-sets μ-sets → tie.At-sets Inv-back μ-back Inv-sets μ-sets
@@ -79,7 +78,7 @@ add-if2-2 : tie.Need-add-if2-2 Inv-back μ-back Inv-sets μ-sets
 add-if2-2 c = search needs
 
 may-join-requires : tie.Need-may-join-requires Inv-back μ-back Inv-sets μ-sets
-may-join-requires c κs = omega (arith, enough c, few (joining c))
+may-join-requires c κs = record { few = omega (arith, enough c, few (joining c)); small = joining c .sets .inv .1 .place .small }
 
 cast-set : tie.Need-cast-set Inv-back μ-back Inv-sets μ-sets
 cast-set c = search needs
@@ -114,13 +113,13 @@ sets-less c =
 sets-again : tie.Need-sets-again Inv-back μ-back Inv-sets μ-sets
 sets-again c =
     let s = joining (joined c) in
-    let g = s .before .args .test in
-    let w = fives g (s .before .pre) in
+    let g = s .before .args in
+    let w = held-in (s .before .pre) in
     let low = enough (joined c) in
     let most = few s in
     ⊎-elim
     (λ v.
-    let b : In (s .sets .at) (g .kept) = rw (v .0 .taken) at (c .before .may-join .ensures) in
+    let b : Joins (g .test .kept) (valueAt (g .clashes .now)) (s .sets .set) (s .sets .at) = rw (v .0 .taken) at (c .before .may-join .ensures) in
     (omega (arith, more w (s .sets .inv .1) (omega arith) b (v .2), joined c .before .if1 .taken), joins w (s .sets .inv .1) (omega arith) b (v .2) (v .3)))
     (λ v. rw (v .1, v .2) (s .sets .inv .0, passes-over w (s .sets .inv .1) (omega arith) (rw (v .0 .left) at (c .before .may-join .ensures))))
     (c .if3 .came)
@@ -136,9 +135,9 @@ back-holds c =
     let g = d .args in
     let t = ended c .sets in
     let s = t .inv .1 in
-    let done : ((ones (t .set) ≡ 3) → ⊥) → Tried (Allowed (g .test)) (valueAt (g .scores .now)) (key mostResults (t .set)) (t .best) =
+    let done : ((ones (t .set) ≡ 3) → ⊥) → Tried (Allowed (g .test) (valueAt (g .clashes .now))) (valueAt (g .scores .now)) (key mostResults (t .set)) (t .best) =
     λ n.
-    short (fives (g .test) (d .pre)) s
+    short (held-in (d .pre)) s
     (⊎-elim
     (λ v. omega (arith, leb-false (t .at + members) (g .held + ones (t .set)) (v .1 .left), v .0 .taken))
     (λ v. let i = t .inv .0 in absurd (n (omega (arith, v .left))))
@@ -146,7 +145,7 @@ back-holds c =
     in (
       refl,
       t .inv .0,
-      record { place = s .place; worth = s .worth; tried = ⊎-elim (λ v. rw (v .2) (v .1 .ensures)) (λ v. rw (v .1) (done (v .0 .left))) (c .if4 .came) },
+      record { place = s .place; fits = s .fits; worth = s .worth; tried = ⊎-elim (λ v. rw (v .2) (v .1 .ensures)) (λ v. rw (v .1) (done (v .0 .left))) (c .if4 .came) },
     )
 
 sub-at : tie.Need-sub-at Inv-back μ-back Inv-sets μ-sets
