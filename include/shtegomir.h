@@ -19,9 +19,9 @@
  *
  * Beside each call stands how many bytes of stack it takes at most: the arguments that do not go in registers, the return address and all
  * below it, and not the caller's own frame. These figures are measured and not proved, for the proof knows no stack: tests/c/stack.c takes
- * them from the compiled library, over inputs that go deepest, and they are rounded up to whole 16 bytes. Where a program binds the C
- * library's memset and memcpy at their first call, and not at its start, a call that is the first to use them takes some kilobytes more,
- * for the dynamic linker.
+ * them from the compiled library, as the kit that the file kit names builds it, over inputs that go deepest, and they are rounded up to
+ * whole 16 bytes. Where a program binds the C library's memset and memcpy at their first call, and not at its start, a call that is the
+ * first to use them takes some kilobytes more, for the dynamic linker.
  *
  * Link with libshtegomir.a, for x86-64 Linux.
  */
@@ -107,7 +107,8 @@ struct shtegomir_best {
  *    7  no English: 0
  *    8  no admissible set: 0
  *
- * It takes at most SHTEGOMIR_BEST_SET_STACK bytes of stack, for five results as for sixteen, and for a student who is refused.
+ * It takes at most SHTEGOMIR_BEST_SET_STACK bytes of stack: as much for five results as for sixteen and for a student refused 3 to 8,
+ * less where no result is read.
  */
 struct shtegomir_best shtegomir_best_set(const uint8_t *catalogue, size_t catalogue_len, const uint8_t *table, size_t table_len,
                                          uint32_t year, const uint8_t *results, size_t results_len);

@@ -79,6 +79,7 @@ static size_t depth(const struct call *c, uint8_t paint)
     size_t passed = c->entry->words > REGISTERS ? 8 * (c->entry->words - REGISTERS) : 0, low = 0;
     uint8_t *pointer = stack + STACK - (passed + 15) / 16 * 16; /* whole 16 bytes, as at every call */
     memset(stack, paint, STACK);
+    memset(returned, 255, sizeof returned);
     memcpy(pointer, c->word + REGISTERS, passed);
     uint64_t refusal = enter(c->entry->function, c->word, pointer);
     if (c->word[0] == at(returned))
@@ -90,6 +91,10 @@ static size_t depth(const struct call *c, uint8_t paint)
     }
     while (low < STACK && stack[low] == paint)
         low++;
+    if (low == 0) {
+        failures++;
+        printf("%s, %s: our stack is too short to measure it\n", c->entry->name, c->input);
+    }
     return STACK - low;
 }
 
@@ -118,7 +123,7 @@ static size_t row(struct call c)
 
 /* ---- The best set ---- */
 
-enum { SUBJECTS = 64, MOST_RESULTS = 17, YEAR = 2021 };
+enum { SUBJECTS = 64, TOO_MANY = 17, YEAR = 2021 };
 
 static uint8_t catalogue[5 * (SUBJECTS + 1)], scores[200 * SUBJECTS];
 
@@ -137,7 +142,7 @@ static void fill_subjects(void)
 }
 
 struct results {
-    uint8_t bytes[6 * MOST_RESULTS];
+    uint8_t bytes[6 * TOO_MANY];
     size_t count;
 };
 
@@ -166,7 +171,7 @@ static size_t ask(const char *input, uint64_t refusal, size_t subjects, uint32_t
                              {at(returned), at(catalogue), 5 * subjects, at(scores), 200 * SUBJECTS, year, at(r.bytes), 6 * r.count}});
 }
 
-/* In the steps by which a stack is had. */
+/* Rounded up to whole 16 bytes. */
 static size_t whole(size_t taken)
 {
     return (taken + 15) / 16 * 16;

@@ -76,7 +76,8 @@ pub record Blank (values : List ℕ) : Type 0 where
   pub sized : length values ≡ mostResults
   pub empty : (i : ℕ) → valueAt values i ≡ 0
 
-pub record Readable (results scores identities : List ℕ) : Type 0 where
+-- at most sixteen results, and two such buffers to read them into
+pub record ToRead (results scores identities : List ℕ) : Type 0 where
   pub few : heldIn results ≤ mostResults
   pub no-scores : Blank scores
   pub no-identities : Blank identities

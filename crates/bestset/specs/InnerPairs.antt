@@ -104,7 +104,7 @@ pub record AgainstAll (results : List ℕ) (usable : ℕ) (identities : List ℕ
 abbrev pub without : ℕ → ℕ → ℕ
 without mask gone = bitXor mask (bitAnd mask gone)
 
--- the others of a mask, where result i is in the one
+-- a mask, where result i is in another; else none
 abbrev pub whereIn : ℕ → ℕ → ℕ → ℕ
 whereIn one other i = if has one i then other else 0
 

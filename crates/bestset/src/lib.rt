@@ -38,7 +38,7 @@ fn told(lead: Lead) -> Answer
 }
 
 // The best set of a student with a catalogue, a table, a year and a number of results that are right: for each result 3, 4, 5, then 6, 7, 8 are left.
-// The results stay where they are lent; what the search needs beside them is a number or two to each.
+// The results stay where they are lent; beside them there are three numbers to each: score, identity, and which it clashes with.
 fn weigh(catalogue: &[u8], table: &[u8], year: u64, results: &[u8]) -> Answer
     requires { ⌜ Begun (student (now catalogue) year (now results)) (now table) ⌝ }
     ensures { λ r. ⌜ Promise (student (now (catalogue .entry)) year (now (results .entry))) (now (table .entry)) r ⌝ }

@@ -4,7 +4,7 @@ ghost use mathlib.Core.Bool.{_&&_, _||_};
 ghost use Prim.Native.Nat.{_<_};
 ghost use Rattle.paper.specs.Limits.{mostResults};
 ghost use Rattle.results.specs.Results.{student};
-ghost use Rattle.bestset.specs.InnerMarks.{unmarked, marked, withOne, Readable, ReadAs};
+ghost use Rattle.bestset.specs.InnerMarks.{unmarked, marked, withOne, ToRead, ReadAs};
 use crate::readable;
 use catalogue::kinds;
 use catalogue::kinds::ENGLISH;
@@ -105,7 +105,7 @@ pub(crate) fn read_all(
     scores: &mut [u32; MOST_RESULTS],
     identities: &mut [u16; MOST_RESULTS],
 ) -> Reading
-    requires { ⌜ Readable (now results) (now scores) (now identities) ⌝ }
+    requires { ⌜ ToRead (now results) (now scores) (now identities) ⌝ }
     ensures { λ r. ⌜ ReadAs (student (now (catalogue .entry)) year (now (results .entry))) (now (table .entry)) r (now (scores .exit)) (now (identities .exit)) ⌝ }
 {
     let mut masks = unmarked();

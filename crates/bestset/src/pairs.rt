@@ -1,4 +1,4 @@
-// Results against each other, in one pass over the pairs: of one subject, which is the later of a year and which are kept; and which may not stand in
+// Results against each other, in one pass over the pairs: of one subject, which comes again in one year and which are kept; and which may not stand in
 // one set. `usable` has bit i for each usable result i.
 ghost use mathlib.Core.Path.{_≡_};
 ghost use Prim.Native.Nat.{_<_};
@@ -95,7 +95,7 @@ fn without(mask: u16, gone: u16) -> u16
     mask ^ (mask & gone)
 }
 
-// The others of a mask, where result i is in the one.
+// A mask, where result i is in another; else none.
 fn where_in(one: u16, other: u16, i: usize) -> u16
     requires { ⌜ i < mostResults ⌝ }
     ensures { λ r. ⌜ r ≡ whereIn one other i ⌝ }
@@ -106,7 +106,7 @@ fn where_in(one: u16, other: u16, i: usize) -> u16
     other
 }
 
-// Those that may not stand in one set with result i for their sorts.
+// Those that may not stand in one set with result i for their sorts; those after it too, at which the search does not look.
 fn by_sorts(masks: Masks, i: usize) -> u16
     requires { ⌜ i < mostResults ⌝ }
     ensures { λ r. ⌜ r ≡ bySorts masks i ⌝ }

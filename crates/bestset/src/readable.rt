@@ -122,7 +122,7 @@ fn judge_input(catalogue: &[u8], table: &[u8], year: u64, results: &[u8]) -> Ver
     Verdict::Clear
 }
 
-// All of it, in the paper's order.
+// What comes before the results are read, in the paper's order.
 pub(crate) fn judge(catalogue: &[u8], table: &[u8], year: u64, results: &[u8]) -> Verdict
     ensures { λ r. ⌜ ruled r ≡ judged (startRules (student (now (catalogue .entry)) year (now (results .entry))) (now (table .entry))) tt ⌝ }
 {

@@ -15,8 +15,8 @@ use Rattle.cohort.specs.Taking.{figuresIn}
 use Rattle.cohort.specs.declared.steps.SoFar.{SoFar}
 
 -- no rule is broken
-abbrev pub Kept : List Rule → Type 0
-Kept rules = judged {A = Unit {0}} rules tt ≡ accepted tt
+abbrev pub NoneBroken : List Rule → Type 0
+NoneBroken rules = judged {A = Unit {0}} rules tt ≡ accepted tt
 
 -- 10 for 10, and 9 for another number
 abbrev pub nineOrTen : ℕ → ℕ
@@ -77,6 +77,6 @@ pub record ResultRoom (so : SoFar) (v : List ℕ) : Type 0 where
 -- there is room for a field of each tag, and figures are accepted
 pub record Room (so : SoFar) (tag : ℕ) (v : List ℕ) : Type 0 where
   pub subject : tag ≡ 2 → (length v ≡ entryBytes) × (so .far .subjects < mostSubjects)
-  pub figures : tag ≡ 4 → Kept (populationRules (figuresIn v))
+  pub figures : tag ≡ 4 → NoneBroken (populationRules (figuresIn v))
   pub student : tag ≡ 5 → so .far .students < mostStudents
   pub result : tag ≡ 6 → ResultRoom so v

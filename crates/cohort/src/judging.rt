@@ -126,7 +126,7 @@ fn judge_student(place: usize, value: &[u8], ids: &[u32]) -> Verdict
     Verdict::Clear
 }
 
-// The values of a field, by what is noted of those before it: past that the table and the ids hold nothing.
+// The values of a field, by what is noted of those before it: past that neither is looked at.
 fn judge_values(place: usize, tag: u8, value: &[u8], far: Far, table: &[u8], ids: &[u32]) -> Verdict
     requires { ⌜ (far .subjects * rowBytes ≤ length (now table)) × (far .students ≤ length (now ids)) ⌝ }
     ensures { λ r. ⌜ ((held : Held) → Seen far held (now (table .entry)) (now (ids .entry))

@@ -8,7 +8,7 @@ ghost use Rattle.curve.specs.Population.{populationRules};
 ghost use Rattle.cohort.specs.Taking.{figuresIn};
 ghost use Rattle.cohort.specs.Promise.{lent};
 ghost use Rattle.cohort.specs.Inner.{Ready, Whole};
-ghost use Rattle.cohort.specs.InnerValues.{Kept, figuresTo, resultTo, numbersWith, rest, restWith, Room, ResultRoom};
+ghost use Rattle.cohort.specs.InnerValues.{NoneBroken, figuresTo, resultTo, numbersWith, rest, restWith, Room, ResultRoom};
 use crate::parts;
 use crate::steps;
 use crate::steps::SoFar;
@@ -28,7 +28,7 @@ use paper::limits::TABLE_BYTES;
 
 // Tag 4, the figures, with Y and r.
 fn take_figures(value: &[u8], so: SoFar, figures: &mut [u32; FIGURE_COUNT]) -> SoFar
-    requires { ⌜ Kept (populationRules (figuresIn (now value))) ⌝ }
+    requires { ⌜ NoneBroken (populationRules (figuresIn (now value))) ⌝ }
     ensures { λ r. ⌜ (r ≡ figuresTo so (now (value .entry))) × (now (figures .exit) ≡ figuresIn (now (value .entry))) ⌝ }
 {
     values::read_figures(value, figures);

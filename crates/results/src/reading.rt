@@ -36,7 +36,7 @@ pub fn result_at(catalogue: &[u8], results: &[u8], i: usize) -> Result
     }
 }
 
-// Its subject, and its year, where two results are compared.
+// Its subject, and its year: of the whole result, and again where two are compared.
 pub fn subject_at(results: &[u8], i: usize) -> u16
     requires { ⌜ i < heldIn (now results) ⌝ }
     ensures { λ r. ⌜ r ≡ subjectOf (now (results .entry)) i ⌝ }

@@ -1,4 +1,4 @@
--- The steps of the search, over any score and any admissibility. The search goes down in the keys of the sets.
+-- The steps of the search, over any scores and any clashes. The search goes down in the keys of the sets.
 use Prim.Native.Nat.{ℕ, suc, _+_, _-_, _*_, _/_, _%_, _^_, _≤_, _<_}
 use native.Mathlib.Nat.{mod-lt, le-refl}
 use native.Mathlib.Decide.{decLe}

@@ -1,7 +1,7 @@
 // The search for the best set: those of five kept results, no two of which clash, are tried in dictionary order of their positions, up to three members
 // by stepping, the fourth and the fifth by loops; a set is left as soon as a result clashes with a member. `clashes` and `scores` are by position,
-// `clashes` with bit j for each result j before that may not stand in one set with it; `held` is the number of results.
-ghost use Prim.Native.Nat.{_<_, _^_};
+// `clashes` with bit j for each result j before that may not stand in one set with it (what it has of results after is not looked at); `held` is the
+// number of results.
 ghost use Rattle.paper.specs.Limits.{mostResults};
 ghost use Rattle.seek.specs.InnerTest.{valueAt, Counted, Allowed, MayJoin, Decides, Beats, Answers};
 ghost use Rattle.seek.specs.InnerSearch.{Sought, key, Tried, StandsWith, Follows, Bettered};
