@@ -8,6 +8,9 @@
 
 enum { SUBJECTS = 6, RESULTS = 6, YEAR = 2021 };
 
+/* A subject's row of the score table: 100 slots of four bytes, in ten-thousandths. */
+enum { SLOTS = 100, SCORE = 4, ROW = SCORE * SLOTS, ONE = 10000 };
+
 static const char *const name[SUBJECTS] = {"English", "Mathematical Methods", "Biology", "Chemistry", "Essential Mathematics", "Physics"};
 
 /* Kind, strand, level and identity of each subject. */
@@ -30,21 +33,24 @@ static const uint8_t results[6 * RESULTS] = {
     0, 5, 'B', 40, 7, 229, /* Physics */
 };
 
-static uint8_t scores[200 * SUBJECTS];
+static uint8_t scores[ROW * SUBJECTS];
 
-static void set_score(int subject, int slot, int hundredths)
+static void set_score(int subject, int slot, uint32_t value)
 {
-    scores[200 * subject + 2 * (slot - 1)] = (uint8_t)(hundredths / 256);
-    scores[200 * subject + 2 * (slot - 1) + 1] = (uint8_t)(hundredths % 256);
+    uint8_t *bytes = scores + ROW * subject + SCORE * (slot - 1);
+    bytes[0] = (uint8_t)(value >> 24);
+    bytes[1] = (uint8_t)(value >> 16);
+    bytes[2] = (uint8_t)(value >> 8);
+    bytes[3] = (uint8_t)value;
 }
 
-/* In this example number 70 scores 70.00, and so on; and an A in Essential Mathematics, which is slot 90, scores 95.00. */
+/* In this example number 70 scores 70.0000, and so on; and an A in Essential Mathematics, which is slot 90, scores 95.0000. */
 static void fill_scores(void)
 {
     for (int subject = 0; subject < SUBJECTS; subject++)
-        for (int slot = 1; slot <= 100; slot++)
-            set_score(subject, slot, 100 * slot);
-    set_score(4, 90, 9500);
+        for (int slot = 1; slot <= SLOTS; slot++)
+            set_score(subject, slot, (uint32_t)slot * ONE);
+    set_score(4, 90, 95 * ONE);
 }
 
 int main(void)

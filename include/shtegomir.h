@@ -42,7 +42,7 @@ enum shtegomir_refusal {
     SHTEGOMIR_TOO_MANY = 2,         /* more subjects, results, students or values than the call takes */
     SHTEGOMIR_WRONG_SUBJECT = 3,    /* a catalogue entry or kind outside its range, or a subject not in the catalogue or without a row */
     SHTEGOMIR_WRONG_RESULT = 4,     /* a letter, number or year wrong for the kind */
-    SHTEGOMIR_WRONG_SCORE = 5,      /* a usable result whose slot is missing or over 10000 */
+    SHTEGOMIR_WRONG_SCORE = 5,      /* a usable result whose slot is missing or over 1000000 */
     SHTEGOMIR_AGAIN = 6,            /* two usable results of one subject and year */
     SHTEGOMIR_NO_ENGLISH = 7,       /* no English shown */
     SHTEGOMIR_NO_SET = 8,           /* no admissible set */
@@ -60,7 +60,7 @@ enum shtegomir_refusal {
 /* Accepted: refusal and place are 0. Refused: aggregate and set are 0. */
 struct shtegomir_best {
     uint64_t refusal, place;
-    uint32_t aggregate; /* the sum of the five scores, in hundredths: 0 to 50000 */
+    uint32_t aggregate; /* the sum of the five scores in hundredths, nearest, halves up: 0 to 50000 */
     uint16_t set;       /* bit i, of value 1 << i, for result i: five bits */
 };
 
@@ -77,9 +77,10 @@ struct shtegomir_best {
  *                strand    0 none, 1 English, 2 Mathematics; 0 for kinds 5 and 6
  *                level     1 to 6 for VET, otherwise 0
  *                identity  two bytes: 1 or more for kinds 1 and 3, otherwise 0
- *   table      200 bytes to a subject, in the catalogue's order: 100 slots of two bytes, slot 1 first, in hundredths, 0 to 10000;
- *              65535 is missing. Kinds 1 to 3 use the slot of their number, Applied A to E slots 90, 70, 50, 30, 10, VET slot 1.
- *              A slot that no usable result uses may hold anything.
+ *   table      400 bytes to a subject, in the catalogue's order: 100 slots of four bytes, slot 1 first, in ten-thousandths, 0 to
+ *              1000000; 4294967295 is missing. Kinds 1 to 3 use the slot of their number, Applied A to E slots 90, 70, 50, 30,
+ *              10, VET slot 1. A slot that no usable result uses may hold anything. The old table, of 200 bytes to a subject and
+ *              in hundredths, is refused 11.
  *   year       the assessment year, 1984 to 9999
  *   results    6 bytes to a result, at most 16 results:
  *                subject   two bytes: its place in the catalogue, from 0
@@ -87,28 +88,29 @@ struct shtegomir_best {
  *                number    1 to 100 for kinds 1 to 3, otherwise 0
  *                year      two bytes: 1980 to the assessment year
  *
- * Accepted: an admissible set, such that none has a greater sum, and of those with that sum the one whose positions, in ascending
- * order, come first in dictionary order. Nothing is written but the struct that is returned.
+ * Accepted: an admissible set, such that none has a greater sum of its five scores, unrounded, and of those with that sum the one
+ * whose positions, in ascending order, come first in dictionary order. The aggregate is that greatest sum, rounded once: no score
+ * is rounded before. Nothing is written but the struct that is returned.
  *
  * Refused, in this order, at a place:
  *    1  catalogue not whole entries: the number of whole ones
  *    2  over 64 subjects: 64
  *    3  an entry outside its ranges: its index
- *   11  table not of 200 bytes to a subject: 0
+ *   11  table not of 400 bytes to a subject: 0
  *   14  year: 0
  *    1  results not whole: the number of whole ones
  *    2  over 16 results: 16
  *       for each result in turn, at its index:
  *    3  subject not in the catalogue
  *    4  letter, number or year wrong for the kind
- *    5  usable, however old, with a slot that is missing or over 10000
+ *    5  usable, however old, with a slot that is missing or over 1000000
  *       of all results:
  *    6  two usable of one subject and year, however old: the index of the later one
  *    7  no English: 0
  *    8  no admissible set: 0
  *
  * It takes at most SHTEGOMIR_BEST_SET_STACK bytes of stack: as much for five results as for sixteen and for a student refused 3 to 8,
- * less where no result is read.
+ * less where the input is refused before results are read.
  */
 struct shtegomir_best shtegomir_best_set(const uint8_t *catalogue, size_t catalogue_len, const uint8_t *table, size_t table_len,
                                          uint32_t year, const uint8_t *results, size_t results_len);
@@ -127,15 +129,17 @@ struct shtegomir_scored {
  *   subject  its place in the catalogue, from 0: whose row is written
  *   counts   kinds 1 to 3: 100, of the results 1 to 100 in this order; Applied: 5, of E, D, C, B, A in this order; VET: none, with a
  *            length of 0, and still a pointer that is not NULL. Each count, and all together, at most 1000000
- *   table    lent to be written, 200 bytes to a subject, as for the best set. The whole row is written, whatever it held, and the other
- *            rows stay: fill a new table with bytes 255, all missing, before the first call
+ *   table    lent to be written, 400 bytes to a subject, as for the best set. The whole row is written, whatever it held, and the
+ *            other rows stay: fill a new table with bytes 255, all missing, before the first call. The old table, of 200 bytes to a
+ *            subject, must not be lent: it is refused 3 where it has no such row of 400 bytes, and else 11, unless it happens to be
+ *            of whole rows of 400 bytes, for then nothing tells that it is old, and the call writes over two of its rows
  *
- * The score of a result is 100 * (half the count at it + all counts below it) / (all counts), in hundredths, nearest, halves up: of
- * Applied with 2, 1, 0, 4 and 1 students 12.50, 31.25, 37.50, 62.50 and 93.75. With no students at all every slot is missing. VET has
- * 50.00 in slot 1. Slots of no result are missing.
+ * The score of a result is 100 * (half the count at it + all counts below it) / (all counts), in ten-thousandths, nearest, halves
+ * up: of Applied with 2, 1, 0, 4 and 1 students 125000, 312500, 375000, 625000 and 937500. With no students at all every slot is
+ * missing. VET has 500000 in slot 1. Slots of no result are missing.
  *
  * Refused, in this order, at a place:
- *    3  a short course, a kind outside 1 to 6, or a table without the subject's row: 0
+ *    3  a short course, a kind outside 1 to 6, or a table without the subject's row of 400 bytes: 0
  *   11  another number of counts than the kind asks, or table not of whole rows: 0
  *   15  a count over 1000000: its index; then a total over it: 0
  *
@@ -143,7 +147,7 @@ struct shtegomir_scored {
  */
 struct shtegomir_scored shtegomir_first_scores(uint32_t kind, uint32_t subject, const uint32_t *counts, size_t counts_len,
                                                uint8_t *table, size_t table_len);
-enum { SHTEGOMIR_FIRST_SCORES_STACK = 48 };
+enum { SHTEGOMIR_FIRST_SCORES_STACK = 64 };
 
 /* ---- The population and the participation curve ---- */
 
@@ -276,7 +280,7 @@ struct shtegomir_text {
  * It takes at most SHTEGOMIR_REPORT_STACK bytes of stack.
  */
 struct shtegomir_text shtegomir_report(const uint8_t *file, size_t file_len, uint8_t *text, size_t text_len);
-enum { SHTEGOMIR_REPORT_STACK = 87760 };
+enum { SHTEGOMIR_REPORT_STACK = 95728 };
 
 #ifdef __cplusplus
 }

@@ -1,5 +1,5 @@
-/* The best set as the record system calls it: students 7, 8 and 9 of the paper's example, calls that are refused, and results over
- * many years. */
+/* The best set as the record system calls it: students 7, 8 and 9 of the paper's example, calls that are refused, results over many
+ * years, and scores that are not whole hundredths. */
 #include <stdio.h>
 #include <string.h>
 
@@ -17,23 +17,28 @@ static const uint8_t catalogue[5 * SUBJECTS] = {
     4, 0, 0, 0, 0, /* Hospitality, Applied */
 };
 
-static uint8_t table[200 * SUBJECTS];
+/* A score is in ten-thousandths. */
+enum { SLOTS = 100, SCORE = 4, ROW = SCORE * SLOTS, ONE = 10000, TOP = 100 * ONE };
+
+#define MISSING UINT32_MAX
+
+static uint8_t table[ROW * SUBJECTS];
 static int failures;
 
-static void score(int subject, int slot, int hundredths)
+static void score(int subject, int slot, uint32_t value)
 {
-    table[200 * subject + 2 * (slot - 1)] = (uint8_t)(hundredths / 256);
-    table[200 * subject + 2 * (slot - 1) + 1] = (uint8_t)(hundredths % 256);
+    const uint8_t bytes[SCORE] = {(uint8_t)(value >> 24), (uint8_t)(value >> 16), (uint8_t)(value >> 8), (uint8_t)value};
+    memcpy(table + ROW * subject + SCORE * (slot - 1), bytes, SCORE);
 }
 
 static void fill_table(void)
 {
     memset(table, 255, sizeof table);
     for (int subject = 0; subject < SUBJECTS; subject++)
-        for (int slot = 1; catalogue[5 * subject] == 1 && slot <= 100; slot++)
-            score(subject, slot, 100 * slot);
-    score(ESSENTIAL, 90, 9500);
-    score(HOSPITALITY, 70, 6000);
+        for (int slot = 1; catalogue[5 * subject] == 1 && slot <= SLOTS; slot++)
+            score(subject, slot, (uint32_t)slot * ONE);
+    score(ESSENTIAL, 90, 95 * ONE);
+    score(HOSPITALITY, 70, 60 * ONE);
 }
 
 /* Results are written one after another. */
@@ -119,6 +124,75 @@ static void years(void)
     expect("two of one subject in 1990", ask(&again, 2021), SHTEGOMIR_AGAIN, 6, 0, 0);
 }
 
+/* Five of 60.0000, of which the last, Physics, has this score. */
+static struct shtegomir_best with(uint32_t physics)
+{
+    struct results five = over(2021, 2021, 2021, 2021, 2021);
+    score(PHYSICS, 60, physics);
+    struct shtegomir_best best = ask(&five, 2021);
+    score(PHYSICS, 60, 60 * ONE);
+    return best;
+}
+
+/* Five of this score. */
+static struct shtegomir_best five_of(uint32_t value)
+{
+    struct results five = over(2021, 2021, 2021, 2021, 2021);
+    for (int subject = 0; subject < SUBJECTS; subject++)
+        score(subject, 60, value);
+    struct shtegomir_best best = ask(&five, 2021);
+    fill_table();
+    return best;
+}
+
+/* Five of 60.0000 and then Hospitality, of this score. */
+static struct shtegomir_best and_hospitality(uint32_t value)
+{
+    struct results six = over(2021, 2021, 2021, 2021, 2021);
+    add(&six, HOSPITALITY, 'B', 0);
+    score(HOSPITALITY, 70, value);
+    struct shtegomir_best best = ask(&six, 2021);
+    score(HOSPITALITY, 70, 60 * ONE);
+    return best;
+}
+
+/* The greatest score, what is over it, and 65535, which was missing when scores were in hundredths. */
+static void limits(void)
+{
+    expect("1000000", with(TOP), 0, 0, 34000, 0x1f); /* 2400000 + 1000000 = 3400000 */
+    expect("1000001", with(TOP + 1), SHTEGOMIR_WRONG_SCORE, 4, 0, 0);
+    expect("4294967294", with(MISSING - 1), SHTEGOMIR_WRONG_SCORE, 4, 0, 0);
+    expect("4294967295, which is missing", with(MISSING), SHTEGOMIR_WRONG_SCORE, 4, 0, 0);
+    expect("65535", with(65535), 0, 0, 24655, 0x1f); /* 2400000 + 65535 = 2465535, 246.5535 */
+    expect("0", with(0), 0, 0, 24000, 0x1f);
+    expect("five of 1000000", five_of(TOP), 0, 0, 50000, 0x1f);
+    expect("five of 0", five_of(0), 0, 0, 0, 0x1f);
+}
+
+/* The sum alone is rounded, to the nearest hundredth, halves up. */
+static void rounding(void)
+{
+    expect("240.0049", with(49), 0, 0, 24000, 0x1f);
+    expect("240.0050", with(50), 0, 0, 24001, 0x1f);
+    expect("240.0051", with(51), 0, 0, 24001, 0x1f);
+    expect("240.0149", with(149), 0, 0, 24001, 0x1f);
+    expect("five of 60.0010", five_of(60 * ONE + 10), 0, 0, 30001, 0x1f); /* 300.0050; five of 60.00 are 300.00 */
+    expect("five of 60.0050", five_of(60 * ONE + 50), 0, 0, 30003, 0x1f); /* 300.0250; five of 60.01 are 300.05 */
+    expect("five of 99.9990", five_of(TOP - 10), 0, 0, 50000, 0x1f);      /* 499.9950 */
+    expect("five of 99.9989", five_of(TOP - 11), 0, 0, 49999, 0x1f);      /* 499.9945 */
+}
+
+/* Sets go by their unrounded sums. The five Generals have 300.0000, and come first in dictionary order; four of them with
+ * Hospitality, of which 0, 1, 2, 3, 5 come first, have 240.0000 and its score. By rounded sums 300.0001 would be no more
+ * than 300.0000, and the set 0x1f. */
+static void unrounded(void)
+{
+    expect("300.0001, and 300.0000 first", and_hospitality(60 * ONE + 1), 0, 0, 30000, 0x2f);
+    expect("300.0000 twice", and_hospitality(60 * ONE), 0, 0, 30000, 0x1f);
+    expect("299.9999, and 300.0000 first", and_hospitality(60 * ONE - 1), 0, 0, 30000, 0x1f);
+    expect("300.0050, and 300.0000 first", and_hospitality(60 * ONE + 50), 0, 0, 30001, 0x2f);
+}
+
 int main(void)
 {
     fill_table();
@@ -151,6 +225,9 @@ int main(void)
            shtegomir_best_set(catalogue, sizeof catalogue - 1, table, sizeof table, 2021, seven.bytes, seven.length),
            SHTEGOMIR_MALFORMED, 6, 0, 0);
     years();
+    limits();
+    rounding();
+    unrounded();
 
     printf(failures ? "best_set: %d wrong\n" : "best_set: all as it must be\n", failures);
     return failures != 0;

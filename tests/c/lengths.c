@@ -12,6 +12,8 @@
 #include "shtegomir.h"
 
 enum { BUFFERS = 6, PATTERN = 0xa5 };
+enum { SLOTS = 100, SCORE = 4, ROW = SCORE * SLOTS, ONE = 10000 }; /* scores are in ten-thousandths */
+enum { OLD_ROW = 2 * SLOTS };                                      /* as it was in hundredths */
 enum { GUARD = 1 << 16, ROOM = 1 << 19 }; /* whole pages, of any size that pages have */
 
 /* What must come out. Accepted: the numbers that are returned, and then what was written, as in render(). */
@@ -141,11 +143,11 @@ static void put_row(const struct lent *lent)
     static const int slots[] = {9, 10, 30, 50, 70, 90, 91};
     const uint8_t *bytes = lent->at;
     for (size_t i = 0; i < sizeof slots / sizeof *slots; i++) {
-        const uint8_t *slot = bytes + 200 + 2 * (slots[i] - 1);
-        put(" %d", 256 * slot[0] + slot[1]);
+        const uint8_t *slot = bytes + ROW + SCORE * (slots[i] - 1);
+        put(" %lu", (unsigned long)slot[0] << 24 | (unsigned long)slot[1] << 16 | (unsigned long)slot[2] << 8 | slot[3]);
     }
     for (size_t i = 0; i < lent->length; i++)
-        if (i / 200 != 1 && bytes[i] != PATTERN) {
+        if (i / ROW != 1 && bytes[i] != PATTERN) {
             wrong("byte %zu was written, in another row", i);
             return;
         }
@@ -158,7 +160,7 @@ static void render(const struct entry *e, const struct lent *lent, const struct 
     for (unsigned i = 0; i < e->numbers; i++)
         put(" %llu", (unsigned long long)a->number[i]);
     for (int i = 0; i < BUFFERS && e->buffer[i].name != NULL; i++)
-        if (e->buffer[i].holds == NULL && e->buffer[i].record == 200) /* only a score table is lent in such records */
+        if (e->buffer[i].holds == NULL && e->buffer[i].record == ROW) /* only a score table is lent in such records */
             put_row(&lent[i]);
         else if (e->buffer[i].holds == NULL && e->buffer[i].unit == 1)
             put_text(&lent[i], a->number[0]);
@@ -204,7 +206,7 @@ static void attempt(const struct entry *e, const char *buffer, const char *what,
 
 enum { YEAR = 2021, POPULATION = 2000, SUBJECTS = 66, RESULTS = 18, MOST = 100001, FILE_MOST = 65537 };
 
-static uint8_t catalogue[5 * SUBJECTS], scores[200 * SUBJECTS], results[6 * RESULTS], file[FILE_MOST];
+static uint8_t catalogue[5 * SUBJECTS], scores[ROW * SUBJECTS], results[6 * RESULTS], file[FILE_MOST];
 static const uint32_t letters[6] = {2, 1, 0, 4, 1};
 static const uint32_t figures[11] = {0, 40, 0, 0, 0, 0, 20};
 static uint32_t values[MOST] = {35500, 36000, 35500}, aggregates[MOST] = {40000, 40000, 30000}, entries[2001];
@@ -268,10 +270,10 @@ static void fill_catalogue(void)
     }
 }
 
-static void score(int subject, int slot, int hundredths)
+static void score(int subject, int slot, uint32_t value)
 {
-    scores[200 * subject + 2 * (slot - 1)] = (uint8_t)(hundredths / 256);
-    scores[200 * subject + 2 * (slot - 1) + 1] = (uint8_t)(hundredths % 256);
+    const uint8_t bytes[SCORE] = {(uint8_t)(value >> 24), (uint8_t)(value >> 16), (uint8_t)(value >> 8), (uint8_t)value};
+    memcpy(scores + ROW * subject + SCORE * (slot - 1), bytes, SCORE);
 }
 
 /* Student 7 of the paper's example, whose six results are followed by Hospitality B, and by Physics of earlier years, not kept. */
@@ -291,11 +293,11 @@ static void fill(void)
 {
     fill_catalogue();
     fill_results();
-    for (int slot = 1; slot <= 100; slot++)
+    for (int slot = 1; slot <= SLOTS; slot++)
         for (int subject = 0; subject < SUBJECTS; subject++)
-            score(subject, slot, 100 * slot);
-    score(4, 90, 9500);
-    score(6, 70, 6000);
+            score(subject, slot, (uint32_t)slot * ONE);
+    score(4, 90, 95 * ONE);
+    score(6, 70, 60 * ONE);
     for (int k = 0; k <= 2000; k++)
         entries[k] = 1000000;
 }
@@ -311,7 +313,7 @@ static int read_office(size_t length)
 
 /* ---- The lengths ---- */
 
-enum { OFFICE = 4346 };
+enum { OFFICE = 5350 };
 
 #define LENGTH {11, 0, NULL}
 #define ALL_LENGTH .fewer = LENGTH, .more = LENGTH, .none = LENGTH
@@ -319,15 +321,18 @@ enum { OFFICE = 4346 };
 static const struct entry best_set_entry = {
     "best set", best_set, 2, {0, 0, " 36000 61"},
     {{"catalogue", catalogue, 1, 35, 5, ALL_LENGTH, .cut = {1, 6, NULL}, .over = {1, 7, NULL}}, /* the table is of seven subjects */
-     {"table", scores, 1, 1400, 200, ALL_LENGTH, .cut = LENGTH, .over = LENGTH},
+     {"table", scores, 1, 7 * ROW, ROW, ALL_LENGTH, .cut = LENGTH, .over = LENGTH},
      {"results", results, 1, 36, 6, .fewer = {8, 0, NULL}, .more = {0, 0, " 37500 79"}, .none = {7, 0, NULL}, .cut = {1, 5, NULL},
       .over = {1, 6, NULL}}}};
 
+/* Of 8 students: 1000000 times 2, 5, 6, 10 and 15 over 16, and beside them missing slots. */
+#define SCORED {0, 0, " 4294967295 125000 312500 375000 625000 937500 4294967295"}
+
 static const struct entry scores_entry = {
-    "first scores", first_scores, 0, {0, 0, " 65535 1250 3125 3750 6250 9375 65535"},
+    "first scores", first_scores, 0, SCORED,
     {{"counts", letters, 4, 5, 1, ALL_LENGTH},
-     {"table", NULL, 1, 400, 200, .fewer = {3, 0, NULL}, .more = {0, 0, " 65535 1250 3125 3750 6250 9375 65535"}, .none = {3, 0, NULL},
-      .cut = {3, 0, NULL}, .over = LENGTH}}};
+     {"table", NULL, 1, 2 * ROW, ROW, .fewer = {3, 0, NULL}, .more = SCORED, .none = {3, 0, NULL}, .cut = {3, 0, NULL},
+      .over = LENGTH}}};
 
 static const struct entry participation_entry = {
     "participation", participation, 2, {0, 0, " 40 5000 0 to 999999"},
@@ -353,7 +358,7 @@ static const struct entry report_entry = {
     "report", report, 1,
     {0, 0, " 120 cohort 4 eligible 3 remainder 0\n7 360.00 3 100.000 97.45\n8 355.00 2 66.667 92.45\n9 refused 8 0\n"
            "11 355.00 2 66.667 92.45\n"},
-    {{"file", file, 1, OFFICE, 1, .fewer = {0, 0, " 15 refused 1 4337\n"}, .more = {0, 0, " 15 refused 1 4346\n"},
+    {{"file", file, 1, OFFICE, 1, .fewer = {0, 0, " 15 refused 1 5341\n"}, .more = {0, 0, " 15 refused 1 5350\n"},
       .none = {0, 0, " 12 refused 1 0\n"}},
      {"text", NULL, 1, 65536, 1, ALL_LENGTH}}};
 
@@ -367,17 +372,21 @@ static const struct {
     size_t length[BUFFERS];
     struct told told;
 } together[] = {
-    {&best_set_entry, "64 subjects", {320, 12800, 36}, {0, 0, " 36000 61"}},
-    {&best_set_entry, "64 subjects and a byte", {321, 12800, 36}, {1, 64, NULL}},
-    {&best_set_entry, "65 subjects", {325, 13000, 36}, {2, 64, NULL}},
-    {&best_set_entry, "65 subjects and a byte", {326, 13000, 36}, {1, 65, NULL}},
-    {&best_set_entry, "16 results", {35, 1400, 96}, {0, 0, " 37500 79"}},
-    {&best_set_entry, "17 results", {35, 1400, 102}, {2, 16, NULL}},
-    {&best_set_entry, "17 results and a byte", {35, 1400, 103}, {1, 17, NULL}},
+    {&best_set_entry, "64 subjects", {320, 64 * ROW, 36}, {0, 0, " 36000 61"}},
+    {&best_set_entry, "64 subjects and a byte", {321, 64 * ROW, 36}, {1, 64, NULL}},
+    {&best_set_entry, "65 subjects", {325, 65 * ROW, 36}, {2, 64, NULL}},
+    {&best_set_entry, "65 subjects and a byte", {326, 65 * ROW, 36}, {1, 65, NULL}},
+    {&best_set_entry, "16 results", {35, 7 * ROW, 96}, {0, 0, " 37500 79"}},
+    {&best_set_entry, "17 results", {35, 7 * ROW, 102}, {2, 16, NULL}},
+    {&best_set_entry, "17 results and a byte", {35, 7 * ROW, 103}, {1, 17, NULL}},
+    {&best_set_entry, "a table of 200 bytes to a subject", {35, 7 * OLD_ROW, 36}, LENGTH},
+    {&best_set_entry, "64 subjects, of 200 bytes each", {320, 64 * OLD_ROW, 36}, LENGTH},
     {&best_set_entry, "nothing at all", {0, 0, 0}, {7, 0, NULL}},
     {&best_set_entry, "a result without a subject", {0, 0, 6}, {3, 0, NULL}},
-    {&scores_entry, "no counts, and no row", {0, 200}, {3, 0, NULL}},
-    {&scores_entry, "a count more, and a byte more", {6, 401}, LENGTH},
+    {&scores_entry, "no counts, and no row", {0, ROW}, {3, 0, NULL}},
+    {&scores_entry, "a count more, and a byte more", {6, 2 * ROW + 1}, LENGTH},
+    {&scores_entry, "two subjects, of 200 bytes each", {5, 2 * OLD_ROW}, {3, 0, NULL}},
+    {&scores_entry, "seven subjects, of 200 bytes each", {5, 7 * OLD_ROW}, LENGTH},
     {&participation_entry, "nothing at all", {0, 0}, LENGTH},
     {&rank_entry, "two values", {2, 2, 2}, {0, 0, " 1 2 50000 100000"}},
     {&rank_entry, "nothing at all", {0, 0, 0}, {0, 0, ""}},
@@ -404,7 +413,7 @@ static const struct {
     {&both_entry, "100000 students, a band fewer", {100000, 2000, 100000, 100000, 99999, 50001}, LENGTH},
     {&both_entry, "100001 students", {100001, 2000, 100001, 100001, 100001, 50001}, {2, 100000, NULL}},
     {&both_entry, "100001 students, and no buffers", {100001, 0, 0, 0, 0, 0}, {2, 100000, NULL}},
-    {&report_entry, "65536 bytes", {65536, 65536}, {0, 0, " 15 refused 1 4346\n"}},
+    {&report_entry, "65536 bytes", {65536, 65536}, {0, 0, " 15 refused 1 5350\n"}},
     {&report_entry, "65537 bytes", {65537, 65536}, {0, 0, " 16 refused 2 65536\n"}},
     {&report_entry, "65537 bytes, and no text", {65537, 0}, LENGTH},
 };

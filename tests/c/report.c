@@ -1,4 +1,5 @@
-/* The report as another program calls it: the paper's example, byte for byte, files that are refused, and calls that are. */
+/* The report as another program calls it: the paper's example, byte for byte, scores at their limits, files that are refused, and
+ * calls that are. */
 #include <stdio.h>
 #include <string.h>
 
@@ -93,6 +94,32 @@ static void bad_files(void)
     office[3] = kept;
 }
 
+/* A subject, a score of it, and nobody: the score's field begins at 13, and its value ends with these bytes. */
+static void scored(const char *what, const uint8_t *score, size_t bytes, const char *wanted)
+{
+    static const uint8_t english[8] = {2, 0, 5, 1, 1, 0, 0, 1};
+    uint8_t file[5 + sizeof english + 6 + 4 + 43];
+    const uint8_t field[6] = {3, 0, (uint8_t)(3 + bytes), 0, 0, 50};
+    uint8_t *to = file;
+    memcpy(to, nobody, 5);
+    memcpy(to += 5, english, sizeof english);
+    memcpy(to += sizeof english, field, sizeof field);
+    memcpy(to += sizeof field, score, bytes);
+    memcpy(to += bytes, nobody + 5, 43);
+    report(what, file, (size_t)(to + 43 - file), wanted);
+}
+
+/* In ten-thousandths, in four bytes; and as it was in hundredths, in two. */
+static void scores(void)
+{
+    static const char none[] = "cohort 0 eligible 0 remainder 0\n";
+    scored("1000000", (const uint8_t[]){0x00, 0x0f, 0x42, 0x40}, 4, none);
+    scored("1000001", (const uint8_t[]){0x00, 0x0f, 0x42, 0x41}, 4, "refused 5 13\n");
+    scored("65535", (const uint8_t[]){0x00, 0x00, 0xff, 0xff}, 4, none);
+    scored("4294967295", (const uint8_t[]){0xff, 0xff, 0xff, 0xff}, 4, "refused 5 13\n");
+    scored("5000 in two bytes", (const uint8_t[]){0x13, 0x88}, 2, "refused 1 13\n");
+}
+
 int main(void)
 {
     if (!read_office()) {
@@ -101,6 +128,7 @@ int main(void)
     }
     good();
     bad_files();
+    scores();
     refused("a text of 65535", TEXT - 1);
     refused("a text of 65537", TEXT + 1);
     refused("a text of 0", 0);

@@ -124,8 +124,9 @@ static size_t row(struct call c)
 /* ---- The best set ---- */
 
 enum { SUBJECTS = 64, TOO_MANY = 17, YEAR = 2021 };
+enum { SLOTS = 100, SCORE = 4, ROW = SCORE * SLOTS, ONE = 10000 }; /* scores are in ten-thousandths */
 
-static uint8_t catalogue[5 * (SUBJECTS + 1)], scores[200 * SUBJECTS];
+static uint8_t catalogue[5 * (SUBJECTS + 1)], scores[ROW * SUBJECTS];
 
 /* General subjects, the first of English and the second of Mathematics. Each slot has its number, and slot 100 is missing. */
 static void fill_subjects(void)
@@ -134,9 +135,10 @@ static void fill_subjects(void)
     for (int i = 0; i < SUBJECTS; i++) {
         const uint8_t subject[5] = {1, (uint8_t)(i < 2 ? i + 1 : 0), 0, 0, (uint8_t)(i + 1)};
         memcpy(catalogue + 5 * i, subject, 5);
-        for (int slot = 1; slot < 100; slot++) {
-            scores[200 * i + 2 * slot - 2] = (uint8_t)(100 * slot / 256);
-            scores[200 * i + 2 * slot - 1] = (uint8_t)(100 * slot % 256);
+        for (int slot = 1; slot < SLOTS; slot++) {
+            int value = slot * ONE;
+            const uint8_t score[SCORE] = {0, (uint8_t)(value >> 16), (uint8_t)(value >> 8), (uint8_t)value};
+            memcpy(scores + ROW * i + SCORE * (slot - 1), score, SCORE);
         }
     }
 }
@@ -168,7 +170,8 @@ static struct results but(struct results r, size_t result, size_t byte, uint8_t 
 static size_t ask(const char *input, uint64_t refusal, size_t subjects, uint32_t year, struct results r)
 {
     return row((struct call){&best_set, input, refusal,
-                             {at(returned), at(catalogue), 5 * subjects, at(scores), 200 * SUBJECTS, year, at(r.bytes), 6 * r.count}});
+                             {at(returned), at(catalogue), 5 * subjects, at(scores), sizeof scores, year, at(r.bytes),
+                              6 * r.count}});
 }
 
 /* Rounded up to whole 16 bytes. */

@@ -1,8 +1,9 @@
 /* Holds each entry of the library to the second implementation, on inputs made from a seed: long and short, valid and damaged.
  * Answers are compared field by field, lent buffers whole and past their ends, and a refused call must leave them as they were.
  * Ranks and bands in one call are held to the calls apart, too. Each refusal that an entry can give must be met; answers that the
- * span of years changes, in students whose results lie over many years; and of ranks and bands in one call each length that alone
- * is wrong, and cohorts of each kind. The first difference ends the run, with its input. tests/compare builds and runs it.
+ * span of years changes, in students whose results lie over many years; answers that rounding would change, and scores at each
+ * limit; and of ranks and bands in one call each length that alone is wrong, and cohorts of each kind. The first difference ends
+ * the run, with its input. tests/compare builds and runs it.
  *
  *   compare SEED
  */
@@ -116,7 +117,11 @@ static int all_met(const struct entry *e)
 
 /* ---- The best set ---- */
 
-enum { ENTRY = 5, ROW = 200, RESULT = 6, SUBJECTS = 66, RESULTS = 18 };
+enum { ENTRY = 5, SLOTS = 100, SCORE = 4, ROW = SCORE * SLOTS, RESULT = 6, SUBJECTS = 66, RESULTS = 18 };
+enum { OLD_ROW = 2 * SLOTS, OLD_MISSING = 65535 }; /* as they were in hundredths */
+enum { TOP_SCORE = 1000000, ONE = 10000, HUNDREDTH = 100 }; /* in ten-thousandths */
+
+#define MISSING UINT32_MAX
 
 struct student {
     size_t subjects, count; /* of its results */
@@ -135,6 +140,17 @@ static void put_two(uint8_t *bytes, uint32_t value)
 static uint32_t two(const uint8_t *bytes)
 {
     return 256u * bytes[0] + bytes[1];
+}
+
+static void put_four(uint8_t *bytes, uint32_t value)
+{
+    put_two(bytes, value >> 16);
+    put_two(bytes + 2, value);
+}
+
+static uint32_t four(const uint8_t *bytes)
+{
+    return 65536u * two(bytes) + two(bytes + 2);
 }
 
 static void make_subject(struct student *s, size_t i)
@@ -169,25 +185,40 @@ static uint32_t year_at(const struct student *s, size_t i)
     return two(s->results + RESULT * i + 4);
 }
 
-/* Where the score of a result stands; the table's first slot if it is no result. */
-static uint8_t *slot_of(struct student *s, size_t i)
+/* Where in the table the score of a result stands; 0 if it is no result. */
+static size_t place_of_score(const struct student *s, size_t i)
 {
     const uint8_t *result = s->results + RESULT * i;
     uint32_t kind = kind_of(s, i), slot = kind == 4 ? 90 - 20 * (result[2] - 'A') : kind == 6 ? 1 : result[3];
-    return s->table + (kind == 0 || slot < 1 || slot > 100 ? 0 : ROW * two(result) + 2 * (slot - 1));
+    return kind == 0 || slot < 1 || slot > SLOTS ? 0 : ROW * two(result) + SCORE * (slot - 1);
 }
 
-/* Few values make sets of one sum. */
+static void put_score(struct student *s, size_t i, uint32_t score)
+{
+    put_four(s->table + place_of_score(s, i), score);
+}
+
+static uint32_t score_of(const struct student *s, size_t i)
+{
+    return four(s->table + place_of_score(s, i));
+}
+
+/* Few values make sets of one sum. Values that lie close make sets of one rounded sum, and a tenth of a hundredth beside the
+ * hundredths makes sums that end in half a hundredth, or next to it. Most are not whole hundredths. */
 static uint32_t some_score(unsigned manner)
 {
     switch (manner) {
-    case 0: return ONE_OF(0, 10000);
-    case 1: return 5000 + below(3);
-    case 2: return 7000;
-    case 3: return 100 * from(1, 100);
-    default: return below(10001);
+    case 0: return ONE_OF(0, TOP_SCORE);
+    case 1: return 50 * ONE + below(3);
+    case 2: return 70 * ONE;
+    case 3: return ONE * from(1, 100);
+    case 4: return HUNDREDTH * from(7000, 7002) + ONE_OF(9, 10, 10, 10, 11);
+    case 5: return 60 * ONE + below(40);
+    default: return chance(6) ? ONE_OF(0, OLD_MISSING, TOP_SCORE) : below(TOP_SCORE + 1);
     }
 }
+
+enum { MANNERS = 8, ANY_SCORE = MANNERS - 1 };
 
 static int one_subject(const struct student *s, size_t i, size_t j)
 {
@@ -216,17 +247,18 @@ static void make_result(struct student *s, size_t i, unsigned manner)
     result[2] = (uint8_t)(kind == 6 ? ONE_OF('Y', 'Y', 'Y', 'N') : ONE_OF('A', 'A', 'B', 'B', 'C', 'C', 'D', 'E'));
     result[3] = (uint8_t)(kind > 3 ? 0 : chance(10) ? ONE_OF(1, 100) : from(1, 100));
     if (result[2] != 'N' && kind != 5) /* the others are not usable, and need no score */
-        put_two(slot_of(s, i), some_score(manner));
+        put_score(s, i, some_score(manner));
 }
 
 static void make_student(struct student *s)
 {
-    unsigned manner = below(6);
+    unsigned manner = below(MANNERS);
     s->subjects = chance(95) ? from(5, 20) : ONE_OF(0, 1, 2, 63, 64);
     s->count = chance(80) ? from(6, 12) : below(17);
     s->year = chance(70) ? 2021 : chance(50) ? ONE_OF(1984, 1985, 1988, 9999) : from(1984, 9999);
     s->years = some_years(s->year);
-    memset(s->table, chance(50) ? 255 : (int)below(256), sizeof s->table); /* slots that serve nobody hold anything */
+    uint32_t anything = chance(50) ? 255 : chance(75) ? below(256) : 0;
+    memset(s->table, (int)anything, sizeof s->table); /* slots that serve nobody hold anything */
     for (size_t i = 0; i < s->subjects; i++)
         make_subject(s, i);
     for (size_t i = 0; i < s->count; i++)
@@ -246,7 +278,7 @@ static void make_many(struct student *s)
         s->table_len = ROW * s->subjects;
     } else {
         for (; s->count < RESULTS - 1; s->count++)
-            make_result(s, s->count, 5);
+            make_result(s, s->count, ANY_SCORE);
         s->results_len = RESULT * s->count;
     }
 }
@@ -262,21 +294,22 @@ static void damage_result(struct student *s)
 {
     size_t i = below(s->count);
     uint8_t *result = s->results + RESULT * i;
-    switch (below(8)) {
+    switch (below(9)) {
     case 0: put_two(result, (uint32_t)s->subjects - below(2)); break;
     case 1: put_two(result, ONE_OF(256, 65535)); break;
     case 2: result[2] = (uint8_t)ONE_OF('@', 'F', 'a', 'N', 'Y', 'X', 'Z', 0); break;
     case 3: result[3] = (uint8_t)ONE_OF(0, 1, 100, 101, 255); break;
     case 4: put_two(result + 4, ONE_OF(1979, 1980, 0, s->year, s->year + 1)); break;
     case 5: put_two(result + 4, year_near(s)); break;
-    case 6: put_two(slot_of(s, i), ONE_OF(0, 10000, 10001, 65534, 65535)); break;
+    case 6:
+    case 7: put_score(s, i, ONE_OF(0, OLD_MISSING, TOP_SCORE, TOP_SCORE + 1, MISSING - 1, MISSING)); break;
     default: memcpy(result, s->results + RESULT * below(s->count), RESULT); break;
     }
 }
 
 static void damage_student(struct student *s)
 {
-    switch (below(12)) {
+    switch (below(13)) {
     case 0: s->catalogue_len = another(s->catalogue_len); break;
     case 1: s->table_len = another(s->table_len); break;
     case 2: s->results_len = another(s->results_len); break;
@@ -284,6 +317,7 @@ static void damage_student(struct student *s)
     case 4: make_many(s); break;
     case 5: s->catalogue[below(ENTRY * s->subjects + 1)] = (uint8_t)ONE_OF(0, 1, 2, 3, 4, 5, 6, 7, 255); break;
     case 6: s->results[below(RESULT * s->count + 1)] = (uint8_t)below(256); break;
+    case 7: s->table_len = OLD_ROW * s->subjects; break;
     default:
         if (s->count > 0)
             damage_result(s);
@@ -363,6 +397,62 @@ static int all_years(void)
     return all;
 }
 
+/* What was met of rounding and of scores, besides refusals. */
+enum {
+    BY_ROUNDED, HALF, UNDER_HALF, OVER_HALF, OLD_MISSING_COUNTS, TOP_COUNTS, JUST_OVER, NEARLY_MISSING, IS_MISSING, OLD_TABLE,
+    OF_SCORES
+};
+
+static unsigned long met_scores[OF_SCORES];
+
+/* A chosen set: what its sum ends in, and scores that are in it. */
+static void note_sum(const struct student *s, const struct second_best *b)
+{
+    uint32_t end = b->sum % HUNDREDTH, old = 0, top = 0;
+    for (size_t i = 0; i < s->count; i++) {
+        old += b->set >> i & 1 && score_of(s, i) == OLD_MISSING;
+        top += b->set >> i & 1 && score_of(s, i) == TOP_SCORE;
+    }
+    met_scores[BY_ROUNDED] += b->set_by_rounded != b->set;
+    met_scores[HALF] += end == HUNDREDTH / 2;
+    met_scores[UNDER_HALF] += end == HUNDREDTH / 2 - 1;
+    met_scores[OVER_HALF] += end == HUNDREDTH / 2 + 1;
+    met_scores[OLD_MISSING_COUNTS] += old != 0;
+    met_scores[TOP_COUNTS] += top != 0;
+}
+
+static void note_scores(const struct student *s, const struct second_best *b)
+{
+    if (b->refusal == 0)
+        note_sum(s, b);
+    if (b->refusal == 5) {
+        uint32_t score = score_of(s, b->place);
+        met_scores[JUST_OVER] += score == TOP_SCORE + 1;
+        met_scores[NEARLY_MISSING] += score == MISSING - 1;
+        met_scores[IS_MISSING] += score == MISSING;
+    }
+    met_scores[OLD_TABLE] += b->refusal == 11 && s->table_len == OLD_ROW * s->subjects;
+}
+
+static int all_scores(void)
+{
+    static const struct {
+        const char *name;
+        unsigned long fewest; /* half of what seed 1 meets, or less */
+    } sorts[OF_SCORES] = {{"with another set than by rounded sums", 1000}, {"with a sum that ends in 50", 250},
+                          {"in 49", 150}, {"in 51", 200}, {"with 6.5535 in the five", 70}, {"with 100.0000", 1000},
+                          {"refused 5 at 1000001", FEWEST}, {"at 4294967294", FEWEST}, {"at a missing slot", 120},
+                          {"refused 11 for a table of 200 bytes to a subject", 1000}};
+    int all = 1;
+    printf("best set by scores:");
+    for (size_t i = 0; i < OF_SCORES; i++) {
+        printf("%s %lu %s", i == 0 ? "" : ",", met_scores[i], sorts[i].name);
+        all &= met_scores[i] >= sorts[i].fewest;
+    }
+    printf(all ? "\n" : "; of some too few\n");
+    return all;
+}
+
 static void compare_best_set(struct entry *e)
 {
     static struct student s;
@@ -376,6 +466,7 @@ static void compare_best_set(struct entry *e)
     same("aggregate", a.aggregate, b.aggregate);
     same("set", a.set, b.set);
     note_years(&s, &b);
+    note_scores(&s, &b);
     if (!differs)
         return;
     printf("year %lu\n", (unsigned long)s.year);
@@ -394,39 +485,70 @@ static uint32_t some_kind(void)
     return chance(8) ? ONE_OF(0, 5, 7, 257, 260, 4294967295u) : ONE_OF(1, 1, 2, 3, 4, 4, 6);
 }
 
-/* Small and great, some nobody's, so that totals lie on both sides of the limit. */
-static void make_counts(uint32_t *counts)
+static uint64_t total_of(const uint32_t *counts, size_t count)
+{
+    uint64_t total = 0;
+    for (size_t i = 0; i < count; i++)
+        total += counts[i];
+    return total;
+}
+
+/* A total that is a power of two, 64 or more, makes scores with halves of a ten-thousandth: one count more makes it up. */
+static void make_halves(uint32_t *counts, size_t count)
+{
+    uint64_t total = total_of(counts, count), wanted = 64;
+    while (wanted < total)
+        wanted *= 2;
+    counts[below(count)] += (uint32_t)(wanted - total);
+}
+
+/* Small and great, some nobody's, so that totals lie on both sides of the limit. So many of them are lent. */
+static void make_counts(uint32_t *counts, size_t count)
 {
     uint32_t limit = ONE_OF(1, 2, 10, 1000, 20000, 400000);
     for (size_t i = 0; i < RESULTS_MOST; i++)
         counts[i] = chance(20) ? 0 : below(limit);
     if (chance(15))
         memset(counts + 1, 0, (RESULTS_MOST - 1) * sizeof *counts);
+    if (chance(20) && count > 0)
+        make_halves(counts, count);
     if (chance(10))
         counts[below(5)] = ONE_OF(999999, MILLION, MILLION + 1, 4294967295u);
 }
 
-/* What was met besides refusals: accepted calls of each kind, and a total over the limit. */
-static unsigned long scored[7], totals_over;
+/* What was met besides refusals: accepted calls of each kind, a total over the limit, and a score with a half. */
+static unsigned long scored[7], totals_over, with_half;
 
-static void note_scores(uint32_t kind, const struct shtegomir_scored *a, uint32_t first)
+/* Whether 1000000 times (the count at the result, plus twice all below) over twice the total has a half. */
+static int has_half(const uint32_t *counts, size_t count)
 {
-    if (a->refusal == 0 && kind <= 6)
+    uint64_t total = total_of(counts, count), below_it = 0;
+    for (size_t i = 0; total != 0 && i < count; below_it += counts[i++])
+        if (TOP_SCORE * (counts[i] + 2 * below_it) % (2 * total) == total)
+            return 1;
+    return 0;
+}
+
+static void note_counts(uint32_t kind, const struct shtegomir_scored *a, const uint32_t *counts, size_t count)
+{
+    if (a->refusal == 0 && kind <= 6) {
         scored[kind]++;
-    if (a->refusal == 15 && a->place == 0 && first <= MILLION)
+        with_half += has_half(counts, count);
+    }
+    if (a->refusal == 15 && a->place == 0 && counts[0] <= MILLION)
         totals_over++;
 }
 
 static int all_kinds(void)
 {
     static const int kinds[] = {1, 2, 3, 4, 6};
-    int all = totals_over > 0;
+    int all = totals_over > 0 && with_half >= FEWEST;
     printf("first scores by kind:");
     for (size_t i = 0; i < sizeof kinds / sizeof *kinds; i++) {
         printf(" %lu of kind %d,", scored[kinds[i]], kinds[i]);
         all &= scored[kinds[i]] > 0;
     }
-    printf(" %lu totals over 1000000%s\n", totals_over, all ? "" : "; not all that there are");
+    printf(" %lu totals over 1000000, %lu with a half%s\n", totals_over, with_half, all ? "" : "; not all that there are");
     return all;
 }
 
@@ -436,17 +558,17 @@ static void compare_scores(struct entry *e)
     static uint8_t table[ROW * ROWS + SPARE], other[ROW * ROWS + SPARE];
     uint32_t kind = some_kind(), rows = chance(5) ? ROWS : from(0, 4), subject = rows == 0 || chance(8) ? ONE_OF(0, rows, rows + 1, 536870912u) : below(rows);
     size_t count = kind >= 1 && kind <= 3 ? 100 : kind == 4 ? 5 : 0, length = ROW * rows;
-    make_counts(counts);
+    make_counts(counts, count);
     if (chance(8))
         count = another(count);
     if (chance(8))
-        length = another(length);
+        length = chance(50) ? another(length) : OLD_ROW * rows;
     fill(table, other, length);
     struct shtegomir_scored a = shtegomir_first_scores(kind, subject, counts, count, table, length);
     struct second_scored b = second_first_scores(kind, subject, counts, count, other, length);
     same_refusal(e, a.refusal, a.place, b.refusal, b.place);
     same_buffer("table", a.refusal, table, other, length);
-    note_scores(kind, &a, counts[0]);
+    note_counts(kind, &a, counts, count);
     if (!differs)
         return;
     printf("kind %lu, subject %lu, a table of %zu bytes\n", (unsigned long)kind, (unsigned long)subject, length);
@@ -896,8 +1018,8 @@ static int all_shown(void)
         students.inputs += students.met[n] = seen.students[n];
     }
     int met = all_met(&files) & all_met(&students);
-    printf("cohorts of at least five eligible: %lu\n", seen.cohorts);
-    return met && seen.cohorts != 0;
+    printf("cohorts of at least five eligible: %lu; students tied by rounding: %lu\n", seen.cohorts, seen.tied_by_rounding);
+    return met && seen.cohorts != 0 && seen.tied_by_rounding >= FEWEST;
 }
 
 /* ---- All of them ---- */
@@ -925,6 +1047,7 @@ int main(int arguments, char **argument)
     fflush(stdout);
     int fine = run("first scores", GIVES(0, 3, 11, 15), compare_scores, SCORES) && all_kinds() &&
                run("best set", GIVES(0, 1, 2, 3, 4, 5, 6, 7, 8, 11, 14), compare_best_set, BEST_SETS) && all_years() &&
+               all_scores() &&
                run("curve", GIVES(0, 9, 10, 11), compare_curve, CURVES) &&
                run("ranks", GIVES(0, 2, 11), compare_ranks, RANKINGS) &&
                run("direct bands", GIVES(0, 2, 9, 11, 12, 13), compare_direct, DIRECT) &&

@@ -117,8 +117,9 @@ static int try_files(unsigned long count, unsigned long seconds)
 }
 
 /* The fewest that must be tried in a second, and in a hundred files be accepted and refused; FEW files by chance do not matter. With fewer
- * the run says little, or what makes or damages files is broken. Measured on x86-64: 2400 files a second, 900 under sanitizers; and in
- * forty runs of 600 files, in a hundred of those given or kept 7 to 14 accepted, of those made by chance 9 to 17. */
+ * the run says little, or what makes or damages files is broken. Measured: on x86-64, before scores had four decimals, 2400 files a
+ * second, 900 under sanitizers; since then, in forty runs of 600 files, in a hundred of those given or kept 7 to 15 accepted, of those
+ * made by chance 10 to 19. */
 enum { A_SECOND = 20, ACCEPTED = 5, REFUSED = 50, FEW = 5 };
 
 static int enough(const char *name, int origin)

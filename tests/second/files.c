@@ -9,15 +9,24 @@
 #include "second.h"
 #include "shtegomir.h"
 
-enum { SUBJECTS = 64, RESULTS = 16, STUDENTS = 512, SLOTS = 100, BANDS = 2000, MILLION = 1000000 };
+enum { SUBJECTS = 64, RESULTS = 16, STUDENTS = 512, SLOTS = 100, SCORE = 4, BANDS = 2000, MILLION = 1000000 };
+enum { TOP_SCORE = 1000000, ONE = 10000, HUNDREDTH = 100 }; /* in ten-thousandths */
+enum { OLD_SCORE = 2, OLD_MISSING = 65535 };                /* as they were in hundredths */
 
-static const uint32_t lengths[] = {0, 2, 5, 5, 40, 4, 6}; /* of the value of each tag */
+#define MISSING UINT32_MAX
+
+static const uint32_t lengths[] = {0, 2, 5, 3 + SCORE, 40, 4, 6}; /* of the value of each tag */
 
 /* ---- Bytes and fields ---- */
 
 static uint32_t two(const uint8_t *bytes)
 {
     return 256u * bytes[0] + bytes[1];
+}
+
+static uint32_t four(const uint8_t *bytes)
+{
+    return 65536u * two(bytes) + two(bytes + 2);
 }
 
 static void put_two(uint8_t *bytes, uint32_t value)
@@ -66,9 +75,11 @@ static void add(struct file *f, uint32_t tag, const uint8_t *value)
 
 /* ---- A file that is accepted ---- */
 
+enum { MANNERS = 6 }; /* of the scores */
+
 struct plan {
     uint32_t year, subjects, students, results; /* results of each student; 0 if it varies */
-    uint32_t manner;                            /* of the scores */
+    uint32_t manner;                            /* of its scores */
     unsigned faults;                            /* how many in a hundred results are wrong */
     uint8_t catalogue[SUBJECTS][5], given[SUBJECTS][SLOTS]; /* given: the slots that have a score */
     uint32_t slots[SUBJECTS];                               /* how many those are */
@@ -82,7 +93,7 @@ static void plan_size(struct plan *p)
         p->results = chance(50) ? from(5, 12) : RESULTS; /* no more than some 430 fit with sixteen */
     p->subjects = chance(90) ? from(5, 16) : chance(50) ? ONE_OF(0, 1, 2, 63, 64) : below(SUBJECTS + 1);
     p->year = chance(80) ? 2021 : ONE_OF(1984, 1985, 1988, 2022, 9999);
-    p->manner = below(5);
+    p->manner = below(MANNERS);
     p->faults = ONE_OF(0, 0, 0, 1, 1, 10);
 }
 
@@ -96,21 +107,23 @@ static void add_subject(struct file *f, struct plan *p, uint32_t i)
     add(f, 2, entry);
 }
 
-/* Few values make students of one aggregate. */
+/* Few values make students of one aggregate. Values that lie close make students who are tied by rounding, and a tenth of a
+ * hundredth beside the hundredths makes sums that end in half a hundredth, or next to it. */
 static uint32_t some_score(uint32_t manner)
 {
     switch (manner) {
-    case 0: return ONE_OF(0, 10000);
-    case 1: return 5000 + below(3);
-    case 2: return 7000;
-    default: return chance(2) ? ONE_OF(0, 10000) : below(10001);
+    case 0: return ONE_OF(0, TOP_SCORE);
+    case 1: return 50 * ONE + below(3);
+    case 2: return 70 * ONE;
+    case 3: return HUNDREDTH * from(7000, 7002) + ONE_OF(9, 10, 10, 10, 11);
+    default: return chance(4) ? ONE_OF(0, OLD_MISSING, TOP_SCORE) : below(TOP_SCORE + 1);
     }
 }
 
 static void add_score(struct file *f, struct plan *p, uint32_t subject, uint32_t slot)
 {
-    uint8_t value[5] = {0, (uint8_t)subject, (uint8_t)slot};
-    put_two(value + 3, some_score(p->manner));
+    uint8_t value[3 + SCORE] = {0, (uint8_t)subject, (uint8_t)slot};
+    put_four(value + 3, some_score(p->manner));
     p->given[subject][p->slots[subject]++] = (uint8_t)slot;
     add(f, 3, value);
 }
@@ -381,7 +394,7 @@ static void cut(struct file *f)
 
 static void append(struct file *f)
 {
-    uint8_t bytes[6] = {(uint8_t)from(0, 7), 0, (uint8_t)below(7), (uint8_t)below(256)};
+    uint8_t bytes[6] = {(uint8_t)from(0, 7), 0, (uint8_t)below(8), (uint8_t)below(256)};
     put_in(f, f->length, bytes, from(1, 6));
 }
 
@@ -474,12 +487,23 @@ static void many_results(struct file *f)
     spoil(f, at);
 }
 
-/* The slot of a score that another has. */
+/* The slot of a score that another has; at times one that does not look given. */
 static void slot_again(struct file *f)
 {
     size_t first = some_of(f, 3), second = some_of(f, 3);
-    if (first < f->length && second < f->length)
-        memcpy(f->bytes + second + 3, f->bytes + first + 3, 3);
+    if (first >= f->length || second >= f->length)
+        return;
+    memcpy(f->bytes + second + 3, f->bytes + first + 3, 3);
+    if (chance(30))
+        put_four(f->bytes + first + 6, ONE_OF(0, OLD_MISSING));
+}
+
+/* A score at its limit, past it, or missing. */
+static void change_score(struct file *f)
+{
+    size_t at = some_of(f, 3);
+    if (at < f->length)
+        put_four(f->bytes + at + 6, ONE_OF(0, OLD_MISSING, TOP_SCORE, TOP_SCORE + 1, MISSING - 1, MISSING));
 }
 
 static void id_again(struct file *f)
@@ -506,7 +530,7 @@ static void change_year(struct file *f)
         put_two(f->bytes + at + 3, ONE_OF(0, 1983, 1984, 2020, 2025, 9999, 10000, 65535));
 }
 
-/* A slot, a score, a subject, an entry or the span of a year to others at its limit, or past it. */
+/* A slot, a subject, an entry or the span of a year to others at its limit, or past it. */
 static void change_value(struct file *f)
 {
     size_t at = some_of(f, ONE_OF(2, 3, 6));
@@ -518,10 +542,8 @@ static void change_value(struct file *f)
     case 3:
         if (chance(30))
             put_two(value, (uint32_t)count_of(f, 2) - below(2));
-        else if (chance(50))
-            value[2] = (uint8_t)ONE_OF(0, 1, 100, 101, 255);
         else
-            put_two(value + 3, ONE_OF(0, 10000, 10001, 65535));
+            value[2] = (uint8_t)ONE_OF(0, 1, 100, 101, 255);
         break;
     default:
         if (chance(30)) /* four or five years before, or after */
@@ -530,6 +552,18 @@ static void change_value(struct file *f)
             value[below(6)] = (uint8_t)ONE_OF(0, 1, 100, 101, 'A', 'C', 'D', 'E', 'F', 'Y', 'N', 255);
         break;
     }
+}
+
+/* A score as it was: two bytes, in hundredths. */
+static void old_score(struct file *f)
+{
+    size_t at = some_of(f, 3);
+    if (at >= f->length)
+        return;
+    uint8_t *score = f->bytes + at + 6;
+    put_two(f->bytes + at + 1, 3 + OLD_SCORE);
+    put_two(score, four(score) / HUNDREDTH);
+    take_out(f, at + 6 + OLD_SCORE, SCORE - OLD_SCORE);
 }
 
 /* Both the length and the value of one field: its length decides. */
@@ -548,8 +582,9 @@ static void change_both(struct file *f)
 void damage_file(struct file *f)
 {
     static void (*const damages[])(struct file *) = {
-        change_byte,   change_byte,  change_length, change_tag, drop_field, double_field,   move_field,  cut,          append,       resize,
-        many_subjects, many_results, many_students, slot_again, id_again,   change_figures, change_year, change_value, change_value, change_both};
+        change_byte, change_byte,  change_length, change_tag,   drop_field,    double_field, move_field, cut,
+        append,      resize,       many_subjects, many_results, many_students, slot_again,   id_again,   change_figures,
+        change_year, change_value, change_value,  change_score, old_score,     change_both};
     find_fields(f);
     damages[below(sizeof damages / sizeof *damages)](f);
 }
@@ -636,6 +671,7 @@ int same_report(const struct file *f, size_t text_len, struct seen *seen)
         seen->calls[a.refusal]++;
     if (a.refusal == 0)
         look_at((size_t)a.length, seen);
+    seen->tied_by_rounding += b.tied_by_rounding;
     return 1;
 }
 

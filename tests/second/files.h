@@ -15,12 +15,14 @@ struct file {
 /* A file that is accepted, if its figures are: no student to hundreds, about half of them eligible. */
 void make_file(struct file *f);
 
-/* One damage: a byte, a length, a field dropped, doubled or moved, an end too soon or too late, one too many, one again, a figure. */
+/* One damage: a byte, a length, a field dropped, doubled or moved, an end too soon or too late, one too many, one again, a figure,
+ * a score, one as it was in hundredths. */
 void damage_file(struct file *f);
 
 /* What the listings showed. In place 0 of each: what was accepted. */
 struct seen {
     unsigned long calls[REFUSALS], files[REFUSALS], students[REFUSALS], cohorts; /* cohorts: those of at least five eligible */
+    unsigned long tied_by_rounding; /* students whose aggregate another has too, from another unrounded sum */
 };
 
 /* Whether both give the same answer and leave the same text, to the last byte and past it; only the listing may be written. What

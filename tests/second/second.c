@@ -9,9 +9,11 @@
 
 enum {
     SUBJECTS = 64, RESULTS = 16, STUDENTS = 512, TALLIED = 100000, FILE_BYTES = 65536, TEXT_BYTES = 65536,
-    ENTRY = 5, RESULT = 6, SLOTS = 100, ROW = 2 * SLOTS, BANDS = 2000, AGGREGATES = 50001,
-    FIRST_YEAR = 1980, TOP_SCORE = 10000, MILLION = 1000000
+    ENTRY = 5, RESULT = 6, SLOTS = 100, SCORE = 4, ROW = SCORE * SLOTS, BANDS = 2000, AGGREGATES = 50001,
+    FIRST_YEAR = 1980, TOP_SCORE = 1000000, HUNDREDTH = 100, MILLION = 1000000 /* scores are in ten-thousandths */
 };
+
+#define MISSING UINT32_MAX
 
 /* Number 0 is no refusal. */
 struct refusal {
@@ -138,7 +140,7 @@ static uint32_t slot_of(struct subject s, struct result r)
 /* Slot 1 is first in its subject's row. */
 static uint32_t score_in(const uint8_t *table, uint32_t subject, uint32_t slot)
 {
-    return two(table + ROW * subject + 2 * (slot - 1));
+    return four(table + ROW * subject + SCORE * (slot - 1));
 }
 
 /* ---- Best set ---- */
@@ -180,7 +182,7 @@ static struct refusal read_result(struct record *of, size_t i, const uint8_t *ca
     if (!of->usable[i])
         return accepted();
     of->scores[i] = score_in(table, r.place, slot_of(s, r));
-    return of->scores[i] > TOP_SCORE ? refused(5, i) : accepted(); /* 65535, missing, is over 10000 too */
+    return of->scores[i] > TOP_SCORE ? refused(5, i) : accepted(); /* missing is over it too */
 }
 
 static int one_subject(const struct record *of, size_t i, size_t j)
@@ -256,7 +258,14 @@ static int is_admissible(const struct record *of, const size_t set[5])
     return general >= 4 && span_of(of, set) <= 4;
 }
 
-/* A set is taken if it is the first that is admissible, or its sum is greater. */
+/* In hundredths. */
+static uint32_t rounded(uint32_t sum)
+{
+    return (uint32_t)nearest(sum, HUNDREDTH);
+}
+
+/* A set is taken if it is the first that is admissible, or its unrounded sum is greater. The aggregate is the sum of the one taken,
+ * in hundredths. By rounded sums a set would be taken if its rounded sum were greater than those before. */
 static void consider(const struct record *of, const size_t set[5], int *found, struct second_best *best)
 {
     uint32_t sum = 0, bits = 0;
@@ -266,10 +275,13 @@ static void consider(const struct record *of, const size_t set[5], int *found, s
         sum += of->scores[set[i]];
         bits |= 1u << set[i];
     }
-    if (*found && sum <= best->aggregate)
+    if (!*found || rounded(sum) > best->aggregate)
+        best->set_by_rounded = (uint16_t)bits;
+    if (*found && sum <= best->sum)
         return;
     *found = 1;
-    best->aggregate = sum;
+    best->sum = sum;
+    best->aggregate = rounded(sum);
     best->set = (uint16_t)bits;
 }
 
@@ -289,14 +301,14 @@ static int find_best(const struct record *of, struct second_best *best)
 
 static struct second_best no_best(struct refusal r)
 {
-    struct second_best best = {r.number, r.place, 0, 0};
+    struct second_best best = {r.number, r.place, 0, 0, 0, 0};
     return best;
 }
 
 struct second_best second_best_set(const uint8_t *catalogue, size_t catalogue_len, const uint8_t *table, size_t table_len,
                                    uint32_t year, const uint8_t *results, size_t results_len)
 {
-    struct second_best best = {0, 0, 0, 0};
+    struct second_best best = {0, 0, 0, 0, 0, 0};
     struct record of = {0};
     size_t subjects = catalogue_len / ENTRY, count = results_len / RESULT;
     struct refusal r = judge_catalogue(catalogue, catalogue_len);
@@ -329,12 +341,14 @@ struct second_best second_best_set(const uint8_t *catalogue, size_t catalogue_le
 
 /* ---- First scores from counts ---- */
 
-enum { MISSING = 65535, LETTERS = 5, HALF_SCORE = 5000 };
+enum { LETTERS = 5, HALF_SCORE = TOP_SCORE / 2 };
 
 static void put_slot(uint8_t *row, uint32_t slot, uint32_t value)
 {
-    row[2 * (slot - 1)] = (uint8_t)(value / 256);
-    row[2 * (slot - 1) + 1] = (uint8_t)(value % 256);
+    for (uint32_t i = SCORE; i > 0; i--) { /* the last byte is the lowest */
+        row[SCORE * (slot - 1) + i - 1] = (uint8_t)(value % 256);
+        value /= 256;
+    }
 }
 
 /* How many students have a result below this one, which is counted from 0. */
@@ -346,7 +360,8 @@ static uint64_t counted_below(const uint32_t *counts, size_t index)
     return sum;
 }
 
-/* 100 times (half the count at the result, plus all below), divided by the total, in hundredths: twice of it over twice the total. */
+/* 100 times (half the count at the result, plus all below), divided by the total, in ten-thousandths: twice of it over twice the
+ * total. */
 static uint32_t first_score(const uint32_t *counts, size_t index, uint64_t total)
 {
     return (uint32_t)nearest(TOP_SCORE * (counts[index] + 2 * counted_below(counts, index)), 2 * total);
@@ -645,14 +660,14 @@ static uint64_t take_entry(struct cohort *into, const uint8_t *value)
 /* Tag 3: 3, 5, 6. */
 static uint64_t take_score(struct cohort *into, const uint8_t *value)
 {
-    uint32_t subject = two(value), slot = value[2], score = two(value + 3);
+    uint32_t subject = two(value), slot = value[2], score = four(value + 3);
     if (subject >= into->subjects)
         return 3;
     if (!within(slot, 1, SLOTS) || score > TOP_SCORE)
         return 5;
-    if (score_in(into->table, subject, slot) != 65535)
+    if (score_in(into->table, subject, slot) != MISSING)
         return 6;
-    memcpy(into->table + ROW * subject + 2 * (slot - 1), value + 3, 2);
+    put_slot(into->table + ROW * subject, slot, score);
     return 0;
 }
 
@@ -720,7 +735,7 @@ static int may_follow(unsigned tag, unsigned last)
 
 static struct refusal read_file(struct cohort *into, const uint8_t *file, size_t length)
 {
-    static const size_t lengths[] = {0, 2, 5, 5, 40, 4, 6}; /* of the value of each tag */
+    static const size_t lengths[] = {0, 2, ENTRY, 3 + SCORE, 40, 4, RESULT}; /* of the value of each tag */
     size_t at = 0;
     unsigned last = 0;
     if (length > FILE_BYTES)
@@ -763,8 +778,17 @@ struct eligible {
     size_t count;
     uint32_t aggregates[STUDENTS], ranks[STUDENTS], percentiles[STUDENTS];
     uint16_t bands[STUDENTS];
-    uint32_t remainder;
+    uint32_t remainder, tied_by_rounding;
 };
+
+/* Whether another eligible student has its aggregate, from another unrounded sum. */
+static int is_tied_by_rounding(const struct second_best *best, size_t count, size_t i)
+{
+    for (size_t j = 0; j < count; j++)
+        if (best[j].refusal == 0 && best[j].aggregate == best[i].aggregate && best[j].sum != best[i].sum)
+            return 1;
+    return 0;
+}
 
 static void judge_students(const struct cohort *of, struct second_best *best, struct eligible *all)
 {
@@ -775,6 +799,8 @@ static void judge_students(const struct cohort *of, struct second_best *best, st
         if (best[i].refusal == 0)
             all->aggregates[all->count++] = best[i].aggregate;
     }
+    for (size_t i = 0; i < of->count; i++)
+        all->tied_by_rounding += best[i].refusal == 0 && is_tied_by_rounding(best, of->count, i);
     second_rank(all->aggregates, all->count, all->ranks, all->count, all->percentiles, all->count);
     all->remainder = second_place_direct(all->aggregates, all->count, of->curve, BANDS, of->population, all->bands, all->count)
                          .remainder;
@@ -792,7 +818,8 @@ static void print_eligible(struct listing *to, uint32_t id, const struct eligibl
         print(to, " %" PRIu32 ".%02" PRIu32 "\n", atar / 100, atar % 100);
 }
 
-static void print_cohort(struct listing *to, const struct cohort *of)
+/* Gives how many are tied by rounding. */
+static uint32_t print_cohort(struct listing *to, const struct cohort *of)
 {
     struct second_best best[STUDENTS];
     struct eligible all = {0};
@@ -804,23 +831,24 @@ static void print_cohort(struct listing *to, const struct cohort *of)
             print_eligible(to, of->students[i].id, &all, next++);
         else
             print(to, "%" PRIu32 " refused %" PRIu64 " %" PRIu64 "\n", of->students[i].id, best[i].refusal, best[i].place);
+    return all.tied_by_rounding;
 }
 
 struct second_text second_report(const uint8_t *file, size_t file_len, uint8_t *text, size_t text_len)
 {
-    struct second_text answer = {0, 0, 0};
+    struct second_text answer = {0, 0, 0, 0};
     struct listing to = {text, 0};
     struct cohort of = {0};
     if (text_len != TEXT_BYTES) {
         answer.refusal = 11;
         return answer;
     }
-    memset(of.table, 255, sizeof of.table); /* slots not given are missing */
+    memset(of.table, 255, sizeof of.table); /* slots not given are missing: all bytes of MISSING are 255 */
     struct refusal r = read_file(&of, file, file_len);
     if (r.number != 0)
         print(&to, "refused %" PRIu64 " %" PRIu64 "\n", r.number, r.place);
     else
-        print_cohort(&to, &of);
+        answer.tied_by_rounding = print_cohort(&to, &of);
     answer.length = to.length;
     return answer;
 }

@@ -11,8 +11,10 @@
 
 struct second_best {
     uint64_t refusal, place;
-    uint32_t aggregate; /* the sum of the five scores, in hundredths */
-    uint16_t set;       /* bit i for result i */
+    uint32_t aggregate;      /* the sum of the five scores in hundredths, nearest, halves up */
+    uint32_t sum;            /* unrounded, in ten-thousandths */
+    uint16_t set;            /* bit i for result i */
+    uint16_t set_by_rounded; /* no answer of the paper's: the set that would be given if sets went by their rounded sums */
 };
 
 struct second_curve {
@@ -36,6 +38,7 @@ struct second_placed {
 
 struct second_text {
     uint64_t refusal, place, length; /* the length of the text */
+    uint32_t tied_by_rounding;       /* the students whose aggregate another has too, from another unrounded sum */
 };
 
 /* Refused: catalogue 1, 2, 3; table length 11; year 14; results 1, 2; for each result in turn 3, 4, 5; then 6, 7, 8. */

@@ -6,6 +6,11 @@
 
 #include "shtegomir.h"
 
+/* Scores are in ten-thousandths; in bytes a missing one is all 255. */
+enum { SLOTS = 100, SCORE_BYTES = 4, ROW_BYTES = SCORE_BYTES * SLOTS, TOP_SCORE = 1000000, HUNDREDTH = 100 };
+
+#define MISSING_SCORE UINT32_MAX
+
 struct shtegomir_best plain_best_set(const uint8_t *catalogue, size_t catalogue_len, const uint8_t *table, size_t table_len,
                                      uint32_t year, const uint8_t *results, size_t results_len);
 

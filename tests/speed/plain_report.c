@@ -8,7 +8,7 @@ enum { FILE_BYTES = 65536, TEXT_BYTES = 65536, SUBJECTS = 64, RESULTS = 16, STUD
 struct cohort {
     uint32_t year, population, curve[BANDS];
     size_t subjects, students;
-    uint8_t catalogue[5 * SUBJECTS], table[200 * SUBJECTS];
+    uint8_t catalogue[5 * SUBJECTS], table[ROW_BYTES * SUBJECTS];
     uint32_t ids[STUDENTS];
     size_t counts[STUDENTS]; /* of the results of each */
     uint8_t results[STUDENTS][6 * RESULTS];
@@ -41,12 +41,12 @@ static unsigned take_score(struct cohort *c, const uint8_t *value)
     unsigned subject = two(value), slot = value[2];
     if (subject >= c->subjects)
         return 3;
-    if (slot < 1 || slot > 100 || two(value + 3) > 10000)
+    if (slot < 1 || slot > SLOTS || four(value + 3) > TOP_SCORE)
         return 5;
-    uint8_t *place = c->table + 200 * subject + 2 * (slot - 1);
-    if (two(place) != 65535)
+    uint8_t *place = c->table + ROW_BYTES * subject + SCORE_BYTES * (slot - 1);
+    if (four(place) != MISSING_SCORE)
         return 6;
-    memcpy(place, value + 3, 2);
+    memcpy(place, value + 3, SCORE_BYTES);
     return 0;
 }
 
@@ -100,7 +100,8 @@ static unsigned take(struct cohort *c, unsigned tag, const uint8_t *value)
 /* Gives the refusal of the file, or 0. */
 static unsigned read_file(struct cohort *c, const uint8_t *file, size_t length, size_t *place)
 {
-    static const uint8_t sizes[7] = {0, 2, 5, 5, 40, 4, 6}, before[7] = {0, 1, 6, 14, 14, 112, 96}; /* bit t: tag t may stand before */
+    static const uint8_t sizes[7] = {0, 2, 5, 3 + SCORE_BYTES, 40, 4, 6};
+    static const uint8_t before[7] = {0, 1, 6, 14, 14, 112, 96}; /* bit t: tag t may stand before */
     unsigned last = 0;
     c->subjects = c->students = 0;
     memset(c->table, 255, sizeof c->table);
@@ -182,7 +183,8 @@ static uint8_t *put_cohort(uint8_t *to, const struct cohort *c)
     uint16_t bands[STUDENTS];
     size_t n = 0, next = 0;
     for (size_t i = 0; i < c->students; i++) {
-        best[i] = plain_best_set(c->catalogue, 5 * c->subjects, c->table, 200 * c->subjects, c->year, c->results[i], 6 * c->counts[i]);
+        best[i] = plain_best_set(c->catalogue, 5 * c->subjects, c->table, ROW_BYTES * c->subjects, c->year, c->results[i],
+                                 6 * c->counts[i]);
         if (best[i].refusal == 0)
             aggregates[n++] = best[i].aggregate;
     }

@@ -81,7 +81,7 @@ static void same(const char *what, const void *a, const void *b, size_t size)
 /* ---- The best set ---- */
 
 /* English, two of Mathematics, ten more Generals, an external examination of one of these, an Applied of Mathematics, a Certificate III. */
-static uint8_t catalogue[5 * SUBJECTS], scores[200 * SUBJECTS], results[STUDENTS][6 * 16];
+static uint8_t catalogue[5 * SUBJECTS], scores[ROW_BYTES * SUBJECTS], results[STUDENTS][6 * 16];
 static size_t results_len;
 static struct shtegomir_best sets[STUDENTS], sets_plain[STUDENTS];
 
@@ -90,10 +90,10 @@ static void make_catalogue(void)
     for (int i = 0; i < SUBJECTS; i++) {
         const uint8_t general[5] = {1, (uint8_t)(i == 0 ? 1 : i <= 2 ? 2 : 0), 0, 0, (uint8_t)(i + 1)};
         memcpy(catalogue + 5 * i, general, 5);
-        for (int slot = 0; slot < 100; slot++) {
-            uint32_t score = next(10001);
-            scores[200 * i + 2 * slot] = (uint8_t)(score >> 8);
-            scores[200 * i + 2 * slot + 1] = (uint8_t)score;
+        for (int slot = 0; slot < SLOTS; slot++) {
+            uint32_t score = next(TOP_SCORE + 1);
+            for (int byte = 0; byte < SCORE_BYTES; byte++)
+                scores[ROW_BYTES * i + SCORE_BYTES * slot + byte] = (uint8_t)(score >> 8 * (SCORE_BYTES - 1 - byte));
         }
     }
     memcpy(catalogue + 5 * 13, (const uint8_t[]){3, 0, 0, 0, 5, 4, 2, 0, 0, 0, 6, 0, 3, 0, 0}, 15);
@@ -176,24 +176,24 @@ static void race_curve(void)
 
 /* ---- First scores ---- */
 
-static uint32_t at_each[100];
-static uint8_t scored[200 * SUBJECTS], scored_plain[200 * SUBJECTS];
+static uint32_t at_each[SLOTS];
+static uint8_t scored[ROW_BYTES * SUBJECTS], scored_plain[ROW_BYTES * SUBJECTS];
 
 static void scores_by_proof(void)
 {
-    shtegomir_first_scores(1, 1, at_each, 100, scored, sizeof scored);
+    shtegomir_first_scores(1, 1, at_each, SLOTS, scored, sizeof scored);
 }
 
 static void scores_by_c(void)
 {
-    plain_first_scores(1, 1, at_each, 100, scored_plain, sizeof scored_plain);
+    plain_first_scores(1, 1, at_each, SLOTS, scored_plain, sizeof scored_plain);
 }
 
 static void race_scores(void)
 {
-    for (int i = 0; i < 100; i++)
+    for (int i = 0; i < SLOTS; i++)
         at_each[i] = next(1000);
-    race("first scores, counts", 100, scores_by_proof, scores_by_c, 1);
+    race("first scores, counts", SLOTS, scores_by_proof, scores_by_c, 1);
     same("first scores", scored, scored_plain, sizeof scored);
 }
 
@@ -324,7 +324,15 @@ static void add_field(unsigned tag, unsigned length, const uint8_t *value)
     file_len += length;
 }
 
-/* The catalogue of the best sets, a score for each slot that a result uses, and as many students of sixteen results as fit. */
+static void add_score(uint8_t subject, uint8_t slot)
+{
+    uint8_t value[3 + SCORE_BYTES] = {0, subject, slot};
+    memcpy(value + 3, scores + ROW_BYTES * subject + SCORE_BYTES * (slot - 1), SCORE_BYTES);
+    add_field(3, sizeof value, value);
+}
+
+/* The catalogue of the best sets, a score for each slot that a result uses, and as many students of sixteen results as fit. An
+ * Applied C becomes a B: without its score one student more fits. */
 static size_t make_full_file(void)
 {
     static const uint8_t year[2] = {2021 / 256, 2021 % 256}, q_and_e[40] = {[6] = 700 / 256, 700 % 256, [26] = 500 / 256, 500 % 256};
@@ -339,10 +347,11 @@ static size_t make_full_file(void)
             uint8_t *result = results[s] + 6 * i, kind = catalogue[5 * result[1]];
             if (kind <= 3)
                 result[3] = (uint8_t)(10 * (1 + next(5)));
+            if (kind == 4 && result[2] == 'C')
+                result[2] = 'B';
             unsigned slot = kind <= 3 ? result[3] : kind == 4 ? 90 - 20 * (result[2] - 'A') : 1;
-            const uint8_t *score = scores + 200 * result[1] + 2 * (slot - 1);
             if (given[result[1]][slot]++ == 0)
-                add_field(3, 5, (const uint8_t[]){0, result[1], (uint8_t)slot, score[0], score[1]});
+                add_score(result[1], (uint8_t)slot);
         }
     add_field(4, 40, q_and_e);
     for (; file_len + 7 + 9 * 16 <= sizeof file; students++) {

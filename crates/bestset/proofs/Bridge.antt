@@ -24,7 +24,7 @@ use Rattle.results.specs.Counting.{usable, showsEnglish}
 use Rattle.results.proofs.Scores.{score-most}
 use Rattle.bestset.specs.Admissible.{Admissible}
 use Rattle.bestset.specs.Rules.{turnRules, repeated, studentRules}
-use Rattle.bestset.specs.Promise.{Values, WellFormed, ruling, Answered, RuledBy, Ruled, Promise}
+use Rattle.bestset.specs.Promise.{Values, WellFormed, ruling, aggregateOf, Answered, RuledBy, Ruled, Promise}
 use Rattle.bestset.specs.InnerJudging.{startRules, Begun}
 use Rattle.bestset.specs.InnerMarks.{MaskOf, ByPosition, outcome}
 use Rattle.bestset.specs.InnerPairs.{repeatedIn, FirstAgain}
@@ -40,7 +40,7 @@ module _ (s : Student) (table : List ℕ) where
   best-answered : (b : Lead) → Answers (Admissible s) (scoreAt s table) b → Answered s table (outcome b)
   best-answered (Leading total set) t =
       let e = t .sum in
-      record { admissible = t .right; aggregate = sym e; most = λ u a. omega (arith, t .most u a); first = λ u a h. t .first u a (h ∙ e) }
+      record { admissible = t .right; aggregate = ap aggregateOf (sym e); most = λ u a. omega (arith, t .most u a); first = λ u a h. t .first u a (h ∙ e) }
   best-answered Nothing n = (refl, n)
 
   module _ (w : WellFormed s table) (test : Test) (clash : ℕ → ℕ) (m : TestOf s test clash) (scores : List ℕ) (k : ByPosition (scoreAt s table) (held s) scores) where

@@ -3,17 +3,18 @@ use Prim.Native.Nat.{ℕ}
 use mathlib.Core.Path.{_≡_, refl}
 use mathlib.Core.Bool.{Bool, true, false, not}
 use mathlib.Core.List.{List, [], _∷_}
-use Rattle.paper.specs.Bytes.{word}
+use Rattle.paper.specs.Bytes.{word, long, wordBytes, longBytes}
 use Rattle.paper.specs.Lists.{listed}
 use Rattle.paper.specs.Letters.{letterA, letterB, letterC, letterD, letterE, letterN, letterY}
 use Rattle.paper.specs.Limits.{missing}
 use Rattle.catalogue.proofs.ByHandEntries.{those, bytes}
 use Rattle.scores.specs.Scores.{found, slotOf}
+use Rattle.scores.specs.Rows.{slotsFrom}
 use Rattle.results.specs.Scoring.{scoreFound}
 use Rattle.results.specs.Counting.{usable}
 use Rattle.results.proofs.ByHandResults.{read}
 use Rattle.bestset.specs.Rules.{wrong, unscored}
-use Rattle.bestset.specs.Examples.{slots, oneScore}
+use Rattle.bestset.specs.Examples.{oneScore}
 
 -- kind, letter, number: right for the kind, of a result of 2021
 abbrev pub right : ℕ → ℕ → ℕ → Bool
@@ -58,21 +59,21 @@ end-years = (refl, refl, refl, refl)
 abbrev pub lacks : ℕ → ℕ → ℕ → ℕ → ℕ → ℕ → Bool
 lacks value kind level letter number year = unscored (oneScore 1 value) (read 0 letter number year kind 0 level 0)
 
--- a missing slot or one over 10000: a General of number 1, a Certificate III with Y
-pub slots-lacking : (lacks 0 1 0 letterA 1 2021 ≡ false) × (lacks 10000 1 0 letterA 1 2021 ≡ false) × (lacks 10001 1 0 letterA 1 2021 ≡ true) × (lacks 65534 1 0 letterA 1 2021 ≡ true)
-    × (lacks missing 1 0 letterA 1 2021 ≡ true) × (lacks 10000 6 3 letterY 0 2021 ≡ false) × (lacks 10001 6 3 letterY 0 2021 ≡ true) × (lacks missing 6 3 letterY 0 2021 ≡ true)
-unfolding unscored usable scoreFound found slotOf slots word
+-- a missing slot or one over 1000000: a General of number 1, a Certificate III with Y
+pub slots-lacking : (lacks 0 1 0 letterA 1 2021 ≡ false) × (lacks 1000000 1 0 letterA 1 2021 ≡ false) × (lacks 1000001 1 0 letterA 1 2021 ≡ true) × (lacks 4294967294 1 0 letterA 1 2021 ≡ true)
+    × (lacks missing 1 0 letterA 1 2021 ≡ true) × (lacks 1000000 6 3 letterY 0 2021 ≡ false) × (lacks 1000001 6 3 letterY 0 2021 ≡ true) × (lacks missing 6 3 letterY 0 2021 ≡ true)
+unfolding slotsFrom wordBytes longBytes unscored usable scoreFound found slotOf word long
 slots-lacking = (refl, refl, refl, refl, refl, refl, refl, refl)
 
 -- its own slot: of Generals of number 1 and 2, and of an Applied A, where slot 1 alone has a score
-pub own-slot : (lacks 5000 2 0 letterA 1 2021 ≡ false) × (lacks 5000 2 0 letterA 2 2021 ≡ true) × (lacks 5000 3 0 letterA 1 2021 ≡ false) × (lacks 5000 3 0 letterA 100 2021 ≡ true) × (lacks 5000 4 0 letterA 0 2021 ≡ true)
-unfolding unscored usable scoreFound found slotOf slots word
+pub own-slot : (lacks 500000 2 0 letterA 1 2021 ≡ false) × (lacks 500000 2 0 letterA 2 2021 ≡ true) × (lacks 500000 3 0 letterA 1 2021 ≡ false) × (lacks 500000 3 0 letterA 100 2021 ≡ true) × (lacks 500000 4 0 letterA 0 2021 ≡ true)
+unfolding slotsFrom wordBytes longBytes unscored usable scoreFound found slotOf word long
 own-slot = (refl, refl, refl, refl, refl)
 
 -- asked of usable results only: not of a short course, of VET with N, of a Certificate II; of a General of any year, of 2021, 2016 and 1980, of an Applied
 -- and a Certificate III of 1990
 pub usable-only : (lacks missing 5 0 letterA 0 2021 ≡ false) × (lacks missing 6 3 letterN 0 2021 ≡ false) × (lacks missing 6 2 letterY 0 2021 ≡ false) × (lacks missing 1 0 letterA 1 2021 ≡ true)
-    × (lacks missing 1 0 letterA 1 2016 ≡ true) × (lacks missing 1 0 letterA 1 1980 ≡ true) × (lacks 5000 1 0 letterA 1 1980 ≡ false)
-    × (lacks missing 4 0 letterA 0 1990 ≡ true) × (lacks missing 6 3 letterY 0 1990 ≡ true) × (lacks 5000 6 3 letterY 0 1990 ≡ false)
-unfolding unscored usable scoreFound found slotOf slots word
+    × (lacks missing 1 0 letterA 1 2016 ≡ true) × (lacks missing 1 0 letterA 1 1980 ≡ true) × (lacks 500000 1 0 letterA 1 1980 ≡ false)
+    × (lacks missing 4 0 letterA 0 1990 ≡ true) × (lacks missing 6 3 letterY 0 1990 ≡ true) × (lacks 500000 6 3 letterY 0 1990 ≡ false)
+unfolding slotsFrom wordBytes longBytes unscored usable scoreFound found slotOf word long
 usable-only = (refl, refl, refl, refl, refl, refl, refl, refl, refl, refl)

@@ -5,8 +5,9 @@ use mathlib.Core.Bool.{Bool, true, false}
 use mathlib.Core.List.{List, [], _∷_, _++_}
 use lib.ListN.{replicate}
 use Rattle.paper.specs.Words.{_=?_, if_then_else_}
-use Rattle.paper.specs.Bytes.{word}
+use Rattle.paper.specs.Bytes.{word, long}
 use Rattle.paper.specs.Lists.{first}
+use Rattle.paper.specs.Rounding.{nearest}
 use Rattle.paper.specs.Rulings.{refused, _at_, inTurn}
 use Rattle.paper.specs.Letters.{letterA, letterC, letterY}
 use Rattle.catalogue.specs.Catalogue.{outside}
@@ -16,6 +17,7 @@ use Rattle.results.specs.Results.{Student, student}
 use Rattle.results.specs.Scoring.{scoreFound, score}
 use Rattle.results.specs.Counting.{usable, usableAt, showsEnglish, kept}
 use Rattle.bestset.specs.Rules.{wrong, unscored, repeated}
+use Rattle.bestset.specs.Promise.{aggregateOf}
 use Rattle.bestset.specs.Computed.{admissible, earlier, one, chosen, computed}
 use Rattle.bestset.specs.Examples.{dated}
 use Rattle.bestset.proofs.ByHand.{gives}
@@ -174,8 +176,8 @@ pub sixteenth : (admissible sixteen 63488 ≡ true) × (admissible sixteen 31744
 unfolding admissible kept usableAt usable first word onesFrom sumOver countOver
 sixteenth = (refl, refl, refl)
 
--- the sum of five scores in hundredths, 0 to 50000
-pub sums : (comesTo (λ i. 0) 31 ≡ 0) × (comesTo (λ i. 10000) 31 ≡ 50000) × (comesTo (λ i. 10 ^ i) 61 ≡ 111101) × (comesTo (λ i. i) 63488 ≡ 65)
+-- the sum of five scores, 0 to 5000000
+pub sums : (comesTo (λ i. 0) 31 ≡ 0) × (comesTo (λ i. 1000000) 31 ≡ 5000000) × (comesTo (λ i. 10 ^ i) 61 ≡ 111101) × (comesTo (λ i. i) 63488 ≡ 65)
 unfolding onesFrom sumOver
 sums = (refl, refl, refl, refl)
 
@@ -208,18 +210,11 @@ unfolding admissible kept usableAt usable first word onesFrom sumOver countOver 
 ties = (refl, refl, refl, refl, refl)
 
 -- and with all scores 0 an aggregate of 0
-pub zeros : computed seven (replicate 1400 0) ≡ gives 0 79
-unfolding first word inTurn outside found slotOf onesFrom sumOver countOver scoreFound score usable usableAt showsEnglish kept wrong unscored repeated admissible earlier chosen
+pub zeros : computed seven (replicate 2800 0) ≡ gives 0 79
+unfolding first word long inTurn outside found slotOf onesFrom sumOver countOver scoreFound score usable usableAt showsEnglish kept wrong unscored repeated admissible earlier chosen aggregateOf nearest
 zeros = refl
 
--- five of them, with English at 87.38 and the others at 84.81: their sum to the hundredth
-pub hundredths : computed (student tied 2021 (dated 0 letterC 1 2021 (dated 1 letterC 1 2021 (dated 2 letterC 1 2021 (dated 3 letterC 1 2021 (dated 6 letterC 1 2021 []))))))
-    (replicate 200 34 ++ replicate 1200 33)
-    ≡ gives 42662 31
-unfolding first word inTurn outside found slotOf onesFrom sumOver countOver scoreFound score usable usableAt showsEnglish kept wrong unscored repeated admissible earlier chosen
-hundredths = refl
-
 -- 7 before 8; 8 with English alone
-pub seven-before-eight : (computed (student tied 2021 (dated 1 letterC 1 2021 [])) (replicate 1400 0) ≡ refused (7 at 0)) × (computed (student tied 2021 (dated 0 letterC 1 2021 [])) (replicate 1400 0) ≡ refused (8 at 0))
-unfolding first word inTurn outside found slotOf onesFrom sumOver countOver scoreFound score usable usableAt showsEnglish kept wrong unscored repeated admissible earlier chosen
+pub seven-before-eight : (computed (student tied 2021 (dated 1 letterC 1 2021 [])) (replicate 2800 0) ≡ refused (7 at 0)) × (computed (student tied 2021 (dated 0 letterC 1 2021 [])) (replicate 2800 0) ≡ refused (8 at 0))
+unfolding first word long inTurn outside found slotOf onesFrom sumOver countOver scoreFound score usable usableAt showsEnglish kept wrong unscored repeated admissible earlier chosen aggregateOf nearest
 seven-before-eight = (refl, refl)

@@ -3,19 +3,22 @@ use Prim.Native.Nat.{ℕ}
 use mathlib.Core.Path.{_≡_, refl}
 use mathlib.Core.Bool.{Bool, true, false}
 use mathlib.Core.List.{List, []}
-use Rattle.paper.specs.Bytes.{word}
+use Rattle.paper.specs.Bytes.{word, long, wordBytes, longBytes}
 use Rattle.paper.specs.Lists.{first}
+use Rattle.paper.specs.Rounding.{nearest}
 use Rattle.paper.specs.Rulings.{refused, _at_, inTurn}
 use Rattle.paper.specs.Letters.{letterA, letterB, letterC, letterD, letterY}
 use Rattle.catalogue.specs.Catalogue.{outside}
 use Rattle.scores.specs.Scores.{found, slotOf}
+use Rattle.scores.specs.Rows.{slotsFrom}
 use Rattle.seek.specs.Sets.{onesFrom, sumOver, countOver}
 use Rattle.results.specs.Results.{student}
 use Rattle.results.specs.Scoring.{scoreFound, score}
 use Rattle.results.specs.Counting.{usable, usableAt, showsEnglish, kept}
 use Rattle.bestset.specs.Rules.{wrong, unscored, repeated}
+use Rattle.bestset.specs.Promise.{aggregateOf}
 use Rattle.bestset.specs.Computed.{admissible, earlier, chosen}
-use Rattle.bestset.specs.Examples.{slots, dated, mature, renewed, longAgo}
+use Rattle.bestset.specs.Examples.{dated, mature, renewed, longAgo}
 use Rattle.bestset.proofs.ByHand.{gives, best}
 use Rattle.bestset.proofs.ByHandSets.{catalogue, english, maths, biology, chemistry, physics, moreEnglish, hospitality, certificate}
 
@@ -78,35 +81,35 @@ over-five = (refl, refl, refl, refl, refl, refl)
 
 -- a student of 2012 to 2016 is accepted in 2021, and one of 2013 to 2017; of 2011 to 2016, or 2012 to 2017, there is no set
 pub stretches : (best (mature 2012 2016 []) ≡ gives 25000 31) × (best (mature 2011 2016 []) ≡ refused (8 at 0)) × (best (mature 2012 2017 []) ≡ refused (8 at 0)) × (best (mature 2013 2017 []) ≡ gives 25000 31)
-unfolding slots first word inTurn outside found slotOf onesFrom sumOver countOver scoreFound score usable usableAt showsEnglish kept wrong unscored repeated admissible earlier chosen
+unfolding slotsFrom wordBytes longBytes first word long inTurn outside found slotOf onesFrom sumOver countOver scoreFound score usable usableAt showsEnglish kept wrong unscored repeated admissible earlier chosen aggregateOf nearest
 stretches = (refl, refl, refl, refl)
 
 -- English of 1990, and five of 2021: it serves, and is none of the five; a D of 1990 does not. English of 2021, after five of 2012 to 2016
 pub old-english : (best (longAgo letterC) ≡ gives 25000 62) × (best (longAgo letterD) ≡ refused (7 at 0))
     × (best (dated 1 letterB 50 2012 (dated 3 letterB 50 2013 (dated 4 letterB 50 2014 (dated 5 letterB 50 2015 (dated 8 letterB 50 2016 (dated 0 letterC 90 2021 [])))))) ≡ gives 25000 31)
-unfolding slots first word inTurn outside found slotOf onesFrom sumOver countOver scoreFound score usable usableAt showsEnglish kept wrong unscored repeated admissible earlier chosen
+unfolding slotsFrom wordBytes longBytes first word long inTurn outside found slotOf onesFrom sumOver countOver scoreFound score usable usableAt showsEnglish kept wrong unscored repeated admissible earlier chosen aggregateOf nearest
 old-english = (refl, refl, refl)
 
 -- 7 before 8: English D of 2011 and four of 2013 to 2016; a C of 1990 alone is 8
 pub seven-first : (best (dated 0 letterD 50 2011 (dated 1 letterB 50 2013 (dated 3 letterB 50 2014 (dated 4 letterB 50 2015 (dated 5 letterB 50 2016 []))))) ≡ refused (7 at 0))
     × (best (dated 0 letterC 50 1990 []) ≡ refused (8 at 0))
-unfolding slots first word inTurn outside found slotOf onesFrom sumOver countOver scoreFound score usable usableAt showsEnglish kept wrong unscored repeated admissible earlier chosen
+unfolding slotsFrom wordBytes longBytes first word long inTurn outside found slotOf onesFrom sumOver countOver scoreFound score usable usableAt showsEnglish kept wrong unscored repeated admissible earlier chosen aggregateOf nearest
 seven-first = (refl, refl)
 
 -- English of 2012 and again in 2016 or 2017: the five are the later one and those of 2013 to 2016; again in 2018 or 2021 it takes the one of 2012 out of the set that
 -- needed it, and there is none
 pub repeats : (best (renewed 2016) ≡ gives 29000 62) × (best (renewed 2017) ≡ gives 29000 62) × (best (renewed 2018) ≡ refused (8 at 0)) × (best (renewed 2021) ≡ refused (8 at 0))
-unfolding slots first word inTurn outside found slotOf onesFrom sumOver countOver scoreFound score usable usableAt showsEnglish kept wrong unscored repeated admissible earlier chosen
+unfolding slotsFrom wordBytes longBytes first word long inTurn outside found slotOf onesFrom sumOver countOver scoreFound score usable usableAt showsEnglish kept wrong unscored repeated admissible earlier chosen aggregateOf nearest
 repeats = (refl, refl, refl, refl)
 
 -- six results: the five highest are of 2012 and 2017, and the best within five years is another; of those that tie the first that may
 pub other-set : (best (dated 0 letterC 90 2012 (dated 1 letterB 50 2016 (dated 3 letterB 60 2016 (dated 4 letterB 70 2016 (dated 5 letterB 80 2017 (dated 8 letterB 40 2017 [])))))) ≡ gives 30000 62)
     × (best (dated 0 letterC 50 2012 (dated 1 letterB 50 2016 (dated 3 letterB 50 2016 (dated 4 letterB 50 2016 (dated 5 letterB 50 2017 (dated 8 letterB 50 2016 [])))))) ≡ gives 25000 47)
-unfolding slots first word inTurn outside found slotOf onesFrom sumOver countOver scoreFound score usable usableAt showsEnglish kept wrong unscored repeated admissible earlier chosen
+unfolding slotsFrom wordBytes longBytes first word long inTurn outside found slotOf onesFrom sumOver countOver scoreFound score usable usableAt showsEnglish kept wrong unscored repeated admissible earlier chosen aggregateOf nearest
 other-set = (refl, refl)
 
 -- of two stretches, 2012 to 2016 and 2013 to 2017, the better: the later one, and the earlier one
 pub better-stretch : (best (mature 2012 2016 (dated 8 letterB 90 2017 [])) ≡ gives 29000 62)
     × (best (mature 2012 2016 (dated 8 letterB 40 2017 [])) ≡ gives 25000 31)
-unfolding slots first word inTurn outside found slotOf onesFrom sumOver countOver scoreFound score usable usableAt showsEnglish kept wrong unscored repeated admissible earlier chosen
+unfolding slotsFrom wordBytes longBytes first word long inTurn outside found slotOf onesFrom sumOver countOver scoreFound score usable usableAt showsEnglish kept wrong unscored repeated admissible earlier chosen aggregateOf nearest
 better-stretch = (refl, refl)

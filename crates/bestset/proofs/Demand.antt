@@ -1,5 +1,5 @@
 -- Demand 2, of every answer that the promise permits to a well-formed student.
-use Prim.Native.Nat.{ℕ}
+use Prim.Native.Nat.{ℕ, _≤_}
 use native.Mathlib.Omega.{arith}
 use mathlib.Core.Path.{_≡_, refl, sym, ap, subst, _∙_}
 use mathlib.Core.Bool.{Bool, true, false, not}
@@ -10,8 +10,9 @@ use Rattle.results.specs.Results.{Student}
 use Rattle.results.specs.Counting.{showsEnglish}
 use Rattle.bestset.specs.Admissible.{Admissible}
 use Rattle.bestset.specs.Rules.{studentRules}
-use Rattle.bestset.specs.Promise.{Values, said, WellFormed, Chosen, Answered, RuledBy, Promise}
+use Rattle.bestset.specs.Promise.{Values, said, WellFormed, totalOf, aggregateOf, Chosen, Answered, RuledBy, Promise}
 use Rattle.bestset.specs.declared.Answer.{Answer}
+use Rattle.bestset.proofs.Rounding.{none-higher}
 
 -- no set is admissible
 abbrev pub NoneAdmissible : Student → Type 0
@@ -60,6 +61,10 @@ module _ (s : Student) (table : List ℕ) (formed : WellFormed s table) (r : Ans
       go : (shown : Bool) → showsEnglish s ≡ shown → (shown ≡ true) × Chosen s table v
       go true e = (refl, subst (Answered s table) is (ruled true e))
       go false e = absurd (let h = no-english e in let z : _≡_ {A = ℕ} 0 1 = cc in omega arith)
+
+  -- and no admissible set rounds to a higher aggregate
+  pub none-more : (v : Values) → said r ≡ accepted v → (set : ℕ) → Admissible s set → aggregateOf (totalOf s table set) ≤ v .aggregate
+  none-more v is = none-higher s table v (only-some-set v is .1)
 
   -- 7 only where it is not shown
   pub only-no-english : said r ≡ refused (7 at 0) → showsEnglish s ≡ false

@@ -4,6 +4,7 @@ pub mod Bridge
 pub mod ByHand
 pub mod ByHandGrades
 pub mod ByHandOrder
+pub mod ByHandRounding
 pub mod ByHandSets
 pub mod ByHandYears
 pub mod Choosing
@@ -15,6 +16,7 @@ pub mod Meeting
 pub mod Named
 pub mod Places
 pub mod Promised
+pub mod Rounding
 pub mod Scored
 pub mod Usable
 pub mod Years

@@ -20,8 +20,9 @@ use Rattle.results.specs.declared.reading.Result.{Result}
 use Rattle.results.proofs.Scores.{score-most}
 use Rattle.bestset.specs.Admissible.{Admissible}
 use Rattle.bestset.specs.Rules.{isScore, unscored, sameYear, repeated}
-use Rattle.bestset.specs.Promise.{Values, WellFormed, Chosen}
+use Rattle.bestset.specs.Promise.{Values, WellFormed, totalOf, Chosen}
 use Rattle.bestset.proofs.Clashing.{rules-kept, usable-held}
+use Rattle.bestset.proofs.Rounding.{rounded-most}
 
 -- the slot of a result holds a score of at most the greatest, and this is what the result counts
 pub record Scored (table : List ℕ) (r : Result) : Type 0 where
@@ -64,7 +65,8 @@ unfolding sumOver
 sum-most f [] h = omega arith
 sum-most f (i ∷ l) h = omega (arith, h i, sum-most f l h)
 
--- the aggregate is the sum of five scores in hundredths, 0 to 50000
+-- the aggregate is the sum of five scores in hundredths, nearest, halves up: 0 to 50000
 pub aggregate-most : (s : Student) (table : List ℕ) (v : Values) → Chosen s table v → v .aggregate ≤ mostAggregate
 aggregate-most s table v w =
-    omega (arith, w .aggregate, w .admissible .five, sum-most (scoreAt s table) (positions (v .set)) (λ i. score-most table (result s i)))
+    let five = sum-most (scoreAt s table) (positions (v .set)) (λ i. score-most table (result s i)) in
+    omega (arith, w .aggregate, rounded-most (totalOf s table (v .set)) mostAggregate (omega (arith, w .admissible .five)))

@@ -1,22 +1,18 @@
 -- Students worked by hand: their catalogues, score tables and results.
-use Prim.Native.Nat.{ℕ, zero, suc, _*_, _/_, _%_}
+use Prim.Native.Nat.{ℕ, _+_, _-_, _*_, _/_, _%_}
 use mathlib.Core.List.{List, [], _∷_, _++_}
 use Rattle.paper.specs.Words.{_=?_, if_then_else_}
 use Rattle.paper.specs.Letters.{letterA, letterB, letterC}
-use Rattle.paper.specs.Limits.{missing}
+use Rattle.paper.specs.Limits.{missing, scoreParts, topScore}
+use Rattle.scores.specs.Rows.{rowOf}
 use Rattle.results.specs.Results.{Student, student}
-
--- a row of n slots from slot k on, by what each holds
-unfoldable pub slots : ℕ → ℕ → (ℕ → ℕ) → List ℕ
-slots zero k f = []
-slots (suc n) k f = f k / 256 ∷ f k % 256 ∷ slots n (suc k) f
 
 -- General slot j scores j.00; an Applied row has one score, the others are missing
 abbrev pub generalRow : List ℕ
-generalRow = slots 100 1 (λ j. 100 * j)
+generalRow = rowOf (λ j. j * scoreParts)
 
 abbrev pub oneScore : ℕ → ℕ → List ℕ
-oneScore slot score = slots 100 1 (λ j. if j =? slot then score else missing)
+oneScore slot score = rowOf (λ j. if j =? slot then score else missing)
 
 -- English, Methods, Biology, Chemistry, Essential Mathematics (Applied), Physics, Hospitality (Applied)
 abbrev pub catalogue : List ℕ
@@ -36,9 +32,9 @@ table =
     ++ (generalRow
     ++ (generalRow
     ++ (generalRow
-    ++ (oneScore 90 9500
+    ++ (oneScore 90 (95 * scoreParts)
     ++ (generalRow
-    ++ oneScore 70 6000)))))
+    ++ oneScore 70 (60 * scoreParts))))))
 
 -- a result of 2021: letter B and a number for a General, a letter for an Applied
 abbrev pub result : ℕ → ℕ → ℕ → List ℕ → List ℕ
@@ -83,8 +79,8 @@ table2 =
     ++ (generalRow
     ++ (generalRow
     ++ (generalRow
-    ++ (oneScore 1 7000
-    ++ (oneScore 1 7000
+    ++ (oneScore 1 (70 * scoreParts)
+    ++ (oneScore 1 (70 * scoreParts)
     ++ generalRow)))))))
 
 -- a General result with its letter, number and year
@@ -110,3 +106,36 @@ renewed year = mature 2012 2016 (dated 0 letterB 90 year [])
 -- five Generals of 2021 at 50, and English of 1990 with a letter
 abbrev pub longAgo : ℕ → List ℕ
 longAgo letter = dated 0 letter 90 1990 (result 1 letterB 50 (three (result 8 letterB 50 [])))
+
+-- scores to four decimals: English and five other Generals, of which slot j scores 50.0000 and j ten-thousandths more; and one whose slot 99 has the
+-- greatest score, and slot 100 one more
+abbrev pub catalogue3 : List ℕ
+catalogue3 =
+    1 ∷ 1 ∷ 0 ∷ 0 ∷ 1
+    ∷ 1 ∷ 0 ∷ 0 ∷ 0 ∷ 2
+    ∷ 1 ∷ 0 ∷ 0 ∷ 0 ∷ 3
+    ∷ 1 ∷ 0 ∷ 0 ∷ 0 ∷ 4
+    ∷ 1 ∷ 0 ∷ 0 ∷ 0 ∷ 5
+    ∷ 1 ∷ 0 ∷ 0 ∷ 0 ∷ 6
+    ∷ 1 ∷ 0 ∷ 0 ∷ 0 ∷ 7
+    ∷ []
+
+abbrev pub fineRow : List ℕ
+fineRow = rowOf (λ j. 50 * scoreParts + j)
+
+abbrev pub topRow : List ℕ
+topRow = rowOf (λ j. topScore - 99 + j)
+
+abbrev pub table3 : List ℕ
+table3 =
+    fineRow
+    ++ (fineRow
+    ++ (fineRow
+    ++ (fineRow
+    ++ (fineRow
+    ++ (fineRow
+    ++ topRow)))))
+
+-- the first four of them by their numbers, and more
+abbrev pub fine : ℕ → ℕ → ℕ → ℕ → List ℕ → Student
+fine a b c d more = student catalogue3 2021 (result 0 letterB a (result 1 letterB b (result 2 letterB c (result 3 letterB d more))))

@@ -19,7 +19,7 @@ use Rattle.results.specs.Counting.{ofGeneral, ofApplied, ofStrand, generalAt, a
 use Rattle.results.specs.Scoring.{scoreAt, identityAt}
 use Rattle.results.specs.declared.reading.Result.{Result}
 use Rattle.bestset.specs.Rules.{turnRules}
-use Rattle.bestset.specs.Promise.{Values}
+use Rattle.bestset.specs.Promise.{Values, aggregateOf}
 use Rattle.bestset.specs.declared.marks.Masks.{Masks}
 use Rattle.bestset.specs.declared.marks.Reading.{Reading}
 use Rattle.bestset.specs.declared.marks.Reading.the-variants.{All, Wrong}
@@ -89,5 +89,5 @@ ReadAs s table (Wrong x) scores identities = judged (turnRules s table) (tt {0})
 
 -- what the search found: the aggregate and the set; or 8
 abbrev pub outcome : Lead → Outcome Values
-outcome (Leading total set) = accepted (record { aggregate = total; set = set })
+outcome (Leading total set) = accepted (record { aggregate = aggregateOf total; set = set })
 outcome Nothing = refused (8 at 0)

@@ -1,9 +1,12 @@
 -- What the best set promises, for every input.
-use Prim.Native.Nat.{ℕ, _≤_}
+use Prim.Native.Nat.{ℕ, _*_, _≤_}
 use mathlib.Core.Path.{_≡_}
 use mathlib.Core.Logic.{_⊎_}
 use mathlib.Core.Bool.{not}
 use mathlib.Core.List.{List, [], _∷_, _++_}
+use Rattle.paper.specs.Limits.{scoreParts}
+use Rattle.paper.specs.Units.{hundredths}
+use Rattle.paper.specs.Rounding.{nearest}
 use Rattle.paper.specs.Rulings.{Outcome, accepted, refused, _⇒_, _at_, judged}
 use Rattle.paper.specs.Refusals.{fault}
 use Rattle.paper.specs.Promises.{Saying}
@@ -33,15 +36,16 @@ WellFormed s table = judged (studentRules s table) (tt {0}) ≡ accepted tt
 abbrev pub ruling : Student → List ℕ → Outcome (Unit {0})
 ruling s table = judged (studentRules s table ++ (not (showsEnglish s) ⇒ 7 at 0 ∷ [])) tt
 
--- student, table, set: what a set of results comes to, the sum of its scores in hundredths
+-- student, table, set: what a set of results comes to, the sum of its scores, unrounded
 abbrev pub totalOf : Student → List ℕ → ℕ → ℕ
 totalOf s table set = comesTo (scoreAt s table) set
 
--- the aggregate of a sum in hundredths is the sum
-abbrev pub aggregateOf : ℕ → ℕ
-aggregateOf sum = sum
+-- the aggregate of a sum of scores: that sum in hundredths, nearest, halves up
+unfoldable pub aggregateOf : ℕ → ℕ
+aggregateOf sum = nearest (hundredths * sum) scoreParts
 
--- the chosen set is admissible, so within five consecutive years, and gives the aggregate; no admissible set comes to more, and none that comes to as much is before it
+-- the chosen set is admissible, so within five consecutive years, and gives the aggregate; no admissible set comes to more, unrounded, and none that
+-- comes to as much is before it
 pub record Chosen (s : Student) (table : List ℕ) (v : Values) : Type 0 where
   pub admissible : Admissible s (v .set)
   pub aggregate : v .aggregate ≡ aggregateOf (totalOf s table (v .set))

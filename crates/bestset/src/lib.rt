@@ -1,15 +1,19 @@
 // One student: the best set of five results, or why there is none.
 ghost use mathlib.Core.Path.{_≡_};
 ghost use Rattle.results.specs.Results.{student};
-ghost use Rattle.bestset.specs.Promise.{said, Promise};
+ghost use Rattle.bestset.specs.Promise.{said, aggregateOf, Promise};
 ghost use Rattle.bestset.specs.InnerMarks.{outcome};
 ghost use Rattle.bestset.specs.InnerJudging.{Begun};
 use crate::marks::Reading;
 use crate::pairs::Compared;
 use paper::limits::MOST_RESULTS;
 use paper::limits::RESULT_BYTES;
+use paper::limits::SCORE_PARTS;
 use paper::refusal::Refusal;
+use paper::rounding;
 use paper::screening::Verdict;
+use paper::units::HUNDREDTHS;
+use paper::widening::wide32;
 use seek::search;
 use seek::search::Lead;
 use seek::search::Test;
@@ -24,6 +28,13 @@ pub enum Answer {
     Refused(Refusal),
 }
 
+// The aggregate of a sum of scores: in hundredths, nearest, halves up.
+fn aggregate_of(sum: u32) -> u32
+    ensures { λ r. ⌜ r ≡ aggregateOf sum ⌝ }
+{
+    rounding::nearest(HUNDREDTHS * wide32(sum), SCORE_PARTS as u64) as u32
+}
+
 // What the search found: the aggregate and the set, or 8.
 fn told(lead: Lead) -> Answer
     ensures { λ r. ⌜ said r ≡ outcome lead ⌝ }
@@ -31,7 +42,7 @@ fn told(lead: Lead) -> Answer
     match lead {
         Lead::Nothing => Answer::Refused(Refusal::NoSet),
         Lead::Leading { total, set } => Answer::Accepted {
-            aggregate: total,
+            aggregate: aggregate_of(total),
             set,
         },
     }

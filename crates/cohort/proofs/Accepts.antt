@@ -39,10 +39,10 @@ module _ (held : Held) (v : List ℕ) (p : ℕ) where
   subject-accepted r = (not-outside (entryAt v 0) r, tt)
 
   -- of a subject of any kind, and any slot of its row
-  pub score-accepted : word v 0 < subjects (held .catalogue) → 1 ≤ byte v 2 → byte v 2 ≤ slots → word v 3 ≤ topScore
+  pub score-accepted : word v 0 < subjects (held .catalogue) → 1 ≤ byte v 2 → byte v 2 ≤ slots → long v 3 ≤ topScore
       → found (held .table) (word v 0) (byte v 2) ≡ absent → Fine 3
   score-accepted known low high top free =
-      (lt-leb _ _ known, (ap not (true-within 1 slots (byte v 2) low high), (le-ltb topScore (word v 3) top, (ap given free, tt))))
+      (lt-leb _ _ known, (ap not (true-within 1 slots (byte v 2) low high), (le-ltb topScore (long v 3) top, (ap given free, tt))))
 
   pub figures-accepted : Unbroken (populationRules (figuresIn v)) → Fine 4
   figures-accepted = all-at p (populationRules (figuresIn v))

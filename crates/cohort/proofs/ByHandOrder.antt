@@ -4,7 +4,7 @@ use mathlib.Core.Path.{_≡_, refl}
 use mathlib.Core.List.{List, [], _∷_, _++_}
 use lib.ListN.{replicate}
 use Rattle.paper.specs.Lists.{sum, first, listed}
-use Rattle.paper.specs.Bytes.{word, long, wordBytes}
+use Rattle.paper.specs.Bytes.{word, long, wordBytes, longBytes}
 use Rattle.paper.specs.Parts.{laid}
 use Rattle.paper.specs.Rounding.{nearest}
 use Rattle.paper.specs.Rulings.{Outcome, accepted, refused, _at_, judged, numberIn, valuesOr}
@@ -30,19 +30,20 @@ abbrev refuses : ℕ → Outcome (Unit {0})
 refuses number = refused (number at 8)
 
 -- each for 1, then its values: a year of 1983 that is too long; a tag 2 of kind 0 after a tag 3; a tag 3 of no subject after
--- the tag 4, and one that is too short; a second tag 4 with E zero
+-- the tag 4, and one that is too short, of six bytes and of an old score's five; a second tag 4 with E zero
 pub one-before-values :
     (judgedAt (readTo 0 0 0 0) 1 (7 ∷ 191 ∷ 0 ∷ []) ≡ refuses 1)
     × (judgedAt (readTo 0 0 0 0) 1 (7 ∷ 191 ∷ []) ≡ refuses 14)
     × (judgedAt (readTo 3 1 0 0) 2 (0 ∷ 0 ∷ 0 ∷ 0 ∷ 0 ∷ []) ≡ refuses 1)
     × (judgedAt (readTo 2 1 0 0) 2 (0 ∷ 0 ∷ 0 ∷ 0 ∷ 0 ∷ []) ≡ refuses 3)
-    × (judgedAt (readTo 4 1 0 0) 3 (0 ∷ 0 ∷ 0 ∷ 0 ∷ 0 ∷ []) ≡ refuses 1)
-    × (judgedAt (readTo 3 1 0 0) 3 (0 ∷ 0 ∷ 0 ∷ 0 ∷ []) ≡ refuses 1)
-    × (judgedAt (readTo 3 1 0 0) 3 (0 ∷ 0 ∷ 0 ∷ 0 ∷ 0 ∷ []) ≡ refuses 3)
+    × (judgedAt (readTo 4 1 0 0) 3 (replicate 7 0) ≡ refuses 1)
+    × (judgedAt (readTo 3 1 0 0) 3 (replicate 6 0) ≡ refuses 1)
+    × (judgedAt (readTo 3 1 0 0) 3 (replicate 5 0) ≡ refuses 1)
+    × (judgedAt (readTo 3 1 0 0) 3 (replicate 7 0) ≡ refuses 3)
     × (judgedAt (readTo 4 1 0 0) 4 (replicate 40 0) ≡ refuses 1)
     × (judgedAt (readTo 3 1 0 0) 4 (replicate 40 0) ≡ refuses 9)
 unfolding word long listed sum first nearest S E outside
-one-before-values = (refl, refl, refl, refl, refl, refl, refl, refl, refl)
+one-before-values = (refl, refl, refl, refl, refl, refl, refl, refl, refl, refl)
 
 -- then 2, then its values: a 65th subject of kind 0, and a 64th; a 513th student whose id comes again, and a 512th
 abbrev again : ℕ → Reader
@@ -68,12 +69,12 @@ pub first-decides :
     (reading (year ++ field 2 (0 ∷ 0 ∷ 0 ∷ 0 ∷ 0 ∷ []) ++ field 7 []) ≡ refused (3 at 5))
     × (reading (year ++ field 7 [] ++ field 2 (0 ∷ 0 ∷ 0 ∷ 0 ∷ 0 ∷ [])) ≡ refused (1 at 5))
     × (reading (year ++ people 40 8 ++ (5 ∷ [])) ≡ refused (10 at 5))
-unfolding word long nearest sum first listed outside found laid wordBytes stored S E pieces newRow body reading
+unfolding word long nearest sum first listed outside found laid wordBytes longBytes stored S E pieces newRow body reading
 first-decides = (refl, refl, refl)
 
 -- a file that ends before its tag 1 or 4 is 1 at the file's length: after a tag 2, after a tag 3
-pub ends-early : (reading (year ++ english) ≡ refused (1 at 13)) × (reading (year ++ english ++ score) ≡ refused (1 at 21))
-unfolding word long first outside found laid wordBytes stored pieces newRow body reading
+pub ends-early : (reading (year ++ english) ≡ refused (1 at 13)) × (reading (year ++ english ++ score) ≡ refused (1 at 23))
+unfolding word long first outside found laid wordBytes longBytes stored pieces newRow body reading
 ends-early = (refl, refl)
 
 -- a file may end after its tag 4, after a tag 5 and after a tag 6: no subject, no student; a student with no result

@@ -6,7 +6,7 @@ use mathlib.Core.List.{List, [], _∷_, _++_}
 use lib.ListN.{replicate}
 use Rattle.paper.specs.Limits.{slots}
 use Rattle.paper.specs.Lists.{first, some, listed}
-use Rattle.paper.specs.Bytes.{word, long, wordBytes}
+use Rattle.paper.specs.Bytes.{word, long, wordBytes, longBytes}
 use Rattle.paper.specs.Parts.{laid}
 use Rattle.scores.specs.Scores.{found}
 use Rattle.scores.specs.Rows.{stored}
@@ -35,24 +35,24 @@ unfolding word
 year-added = refl
 
 -- a catalogue entry, and the subject's row, after those that are held
-pub subject-added : plus 2 (1 ∷ 2 ∷ 0 ∷ 4 ∷ 5 ∷ []) ≡ holding 2000 (31 ∷ 1 ∷ 2 ∷ 0 ∷ 4 ∷ 5 ∷ []) (32 ∷ replicate 200 255) (33 ∷ []) two
+pub subject-added : plus 2 (1 ∷ 2 ∷ 0 ∷ 4 ∷ 5 ∷ []) ≡ holding 2000 (31 ∷ 1 ∷ 2 ∷ 0 ∷ 4 ∷ 5 ∷ []) (32 ∷ replicate 400 255) (33 ∷ []) two
 unfolding newRow
 subject-added = refl
 
 -- slots not given are missing, all hundred of a new row
 pub slots-missing : some slots (λ i. given (found newRow 0 (i + 1))) ≡ false
-unfolding newRow first found word
+unfolding newRow first found word long
 slots-missing = refl
 
 -- a score in its subject's slot: slot 2 of the first of two, and slot 100 of the second; every other byte as it was
 abbrev withScore : List ℕ → Held
-withScore v = taken (holding 2000 (31 ∷ []) (replicate 400 255) (33 ∷ []) two) (record { tag = 3; value = v })
+withScore v = taken (holding 2000 (31 ∷ []) (replicate 800 255) (33 ∷ []) two) (record { tag = 3; value = v })
 
 pub score-added :
-    (withScore (0 ∷ 0 ∷ 2 ∷ 19 ∷ 137 ∷ []) ≡ holding 2000 (31 ∷ []) (255 ∷ 255 ∷ 19 ∷ 137 ∷ replicate 396 255) (33 ∷ []) two)
-    × (withScore (0 ∷ 1 ∷ 100 ∷ 19 ∷ 137 ∷ []) ≡ holding 2000 (31 ∷ []) (replicate 398 255 ++ (19 ∷ 137 ∷ [])) (33 ∷ []) two)
-    × (withScore (0 ∷ 1 ∷ 1 ∷ 0 ∷ 0 ∷ []) ≡ holding 2000 (31 ∷ []) (replicate 200 255 ++ (0 ∷ 0 ∷ replicate 198 255)) (33 ∷ []) two)
-unfolding word wordBytes stored laid
+    (withScore (0 ∷ 0 ∷ 2 ∷ 0 ∷ 1 ∷ 2 ∷ 3 ∷ []) ≡ holding 2000 (31 ∷ []) (255 ∷ 255 ∷ 255 ∷ 255 ∷ 0 ∷ 1 ∷ 2 ∷ 3 ∷ replicate 792 255) (33 ∷ []) two)
+    × (withScore (0 ∷ 1 ∷ 100 ∷ 0 ∷ 1 ∷ 2 ∷ 3 ∷ []) ≡ holding 2000 (31 ∷ []) (replicate 796 255 ++ (0 ∷ 1 ∷ 2 ∷ 3 ∷ [])) (33 ∷ []) two)
+    × (withScore (0 ∷ 1 ∷ 1 ∷ 0 ∷ 0 ∷ 0 ∷ 0 ∷ []) ≡ holding 2000 (31 ∷ []) (replicate 400 255 ++ (0 ∷ 0 ∷ 0 ∷ 0 ∷ replicate 396 255)) (33 ∷ []) two)
+unfolding word long wordBytes longBytes stored laid
 score-added = (refl, refl, refl)
 
 -- Q then E, 40, four bytes each: ten that differ, each with a byte in another place

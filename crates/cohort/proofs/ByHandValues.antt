@@ -15,9 +15,9 @@ use Rattle.curve.specs.Population.{S, E}
 use Rattle.cohort.specs.Held.{Held, Enrolled}
 use Rattle.cohort.specs.Judging.{holdsId, valueRules}
 
--- what is held: two subjects, of which the first has 50.00 in slot 2, 0.00 in slot 3 and 100.00 in slot 4; the students 260 and 16777220
+-- what is held: two subjects, of which the first has 50.0000 in slot 2, 0.0000 in slot 3 and 100.0000 in slot 4; the students 260 and 16777220
 abbrev table : List ℕ
-table = stored (stored (stored (replicate 400 255) 0 2 5000) 0 3 0) 0 4 10000
+table = stored (stored (stored (replicate 800 255) 0 2 500000) 0 3 0) 0 4 1000000
 
 abbrev enrolled : ℕ → Enrolled
 enrolled id = record { id = id; results = [] }
@@ -31,12 +31,12 @@ held = record {
   students = enrolled 260 ∷ enrolled 16777220 ∷ [];
 }
 
--- or a subject of each kind, of which the last has 50.00 in slot 1
+-- or a subject of each kind, of which the last has 50.0000 in slot 1
 abbrev ofEachKind : Held
 ofEachKind = record {
   year = 2021;
   catalogue = 1 ∷ 1 ∷ 0 ∷ 0 ∷ 9 ∷ 2 ∷ 0 ∷ 0 ∷ 0 ∷ 0 ∷ 3 ∷ 0 ∷ 0 ∷ 0 ∷ 9 ∷ 4 ∷ 2 ∷ 0 ∷ 0 ∷ 0 ∷ 5 ∷ 0 ∷ 0 ∷ 0 ∷ 0 ∷ 6 ∷ 0 ∷ 3 ∷ 0 ∷ 0 ∷ [];
-  table = stored (replicate 1200 255) 5 1 5000;
+  table = stored (replicate 2400 255) 5 1 500000;
   figures = [];
   students = [];
 }
@@ -119,39 +119,49 @@ entries-again = (refl, refl, refl, refl, refl, refl)
 
 -- a score: subject, slot, value
 abbrev score : ℕ → ℕ → ℕ → Outcome (Unit {0})
-score subject slot value = judgedAs 3 (wordBytes subject ++ (slot ∷ wordBytes value))
+score subject slot value = judgedAs 3 (wordBytes subject ++ (slot ∷ longBytes value))
 
 -- 3: the subject is not in the catalogue, whose last is 1
-pub subjects : (score 0 1 5000 ≡ good) × (score 1 1 5000 ≡ good) × (score 2 1 5000 ≡ refuses 3) × (score 256 1 5000 ≡ refuses 3)
-unfolding word wordBytes found stored laid
+pub subjects : (score 0 1 500000 ≡ good) × (score 1 1 500000 ≡ good) × (score 2 1 500000 ≡ refuses 3) × (score 256 1 500000 ≡ refuses 3)
+unfolding word long wordBytes longBytes found stored laid
 subjects = (refl, refl, refl, refl)
 
 -- 5: a slot outside 1..100
-pub slots : (score 0 0 5000 ≡ refuses 5) × (score 0 1 5000 ≡ good) × (score 0 100 5000 ≡ good) × (score 0 101 5000 ≡ refuses 5) × (score 0 255 5000 ≡ refuses 5)
-unfolding word wordBytes found stored laid
+pub slots : (score 0 0 500000 ≡ refuses 5) × (score 0 1 500000 ≡ good) × (score 0 100 500000 ≡ good) × (score 0 101 500000 ≡ refuses 5) × (score 0 255 500000 ≡ refuses 5)
+unfolding word long wordBytes longBytes found stored laid
 slots = (refl, refl, refl, refl, refl)
 
 -- of whatever kind the subject is: a slot that its results never use breaks no rule, nor a score after those of a later subject
 abbrev unused : ℕ → ℕ → Outcome (Unit {0})
-unused subject slot = judgedBy ofEachKind 3 (wordBytes subject ++ (slot ∷ wordBytes 5000))
+unused subject slot = judgedBy ofEachKind 3 (wordBytes subject ++ (slot ∷ longBytes 500000))
 
 pub slots-of-each-kind : (unused 0 1 ≡ good) × (unused 1 1 ≡ good) × (unused 2 1 ≡ good) × (unused 3 40 ≡ good) × (unused 4 1 ≡ good) × (unused 5 2 ≡ good)
-unfolding word wordBytes found stored laid
+unfolding word long wordBytes longBytes found stored laid
 slots-of-each-kind = (refl, refl, refl, refl, refl, refl)
 
--- 5: a value over 10000; one that says missing too
-pub values : (score 0 1 0 ≡ good) × (score 0 1 10000 ≡ good) × (score 0 1 10001 ≡ refuses 5) × (score 0 1 65535 ≡ refuses 5)
-unfolding word wordBytes found stored laid
-values = (refl, refl, refl, refl)
+-- 5: a value over 1000000; one that says missing too; 10000, 10001 and 65535 are scores as others are
+pub values : (score 0 1 0 ≡ good) × (score 0 1 10000 ≡ good) × (score 0 1 10001 ≡ good) × (score 0 1 65535 ≡ good) × (score 0 1 1000000 ≡ good) × (score 0 1 1000001 ≡ refuses 5)
+    × (score 0 1 4294967295 ≡ refuses 5)
+unfolding word long wordBytes longBytes found stored laid
+values = (refl, refl, refl, refl, refl, refl, refl)
 
 -- 6: a slot again, whatever it has; not the slot of another subject, nor the one next to it
-pub slot-again : (score 0 2 5000 ≡ refuses 6) × (score 0 2 6000 ≡ refuses 6) × (score 0 3 5000 ≡ refuses 6) × (score 0 4 5000 ≡ refuses 6) × (score 1 2 5000 ≡ good) × (score 0 5 5000 ≡ good)
-unfolding word wordBytes found stored laid
+pub slot-again : (score 0 2 500000 ≡ refuses 6) × (score 0 2 600000 ≡ refuses 6) × (score 0 3 500000 ≡ refuses 6) × (score 0 4 500000 ≡ refuses 6) × (score 1 2 500000 ≡ good) × (score 0 5 500000 ≡ good)
+unfolding word long wordBytes longBytes found stored laid
 slot-again = (refl, refl, refl, refl, refl, refl)
 
+-- 6: a slot that holds 65535, which was missing in 16 bits, is given; so is one that holds a number over the top, in a table that no file gives
+abbrev heldOdd : Held
+heldOdd = record { year = 2021; catalogue = 1 ∷ 1 ∷ 0 ∷ 0 ∷ 9 ∷ []; table = stored (stored (replicate 400 255) 0 2 65535) 0 3 1000001; figures = []; students = [] }
+
+pub odd-again : (judgedBy heldOdd 3 (wordBytes 0 ++ (2 ∷ longBytes 500000)) ≡ refuses 6) × (judgedBy heldOdd 3 (wordBytes 0 ++ (3 ∷ longBytes 500000)) ≡ refuses 6)
+    × (judgedBy heldOdd 3 (wordBytes 0 ++ (4 ∷ longBytes 500000)) ≡ accepted tt)
+unfolding word long wordBytes longBytes found stored laid
+odd-again = (refl, refl, refl)
+
 -- 3 before 5 before 6: no such subject with a slot 0 and with a value over; a slot again with a value over
-pub three-five-six : (score 2 0 5000 ≡ refuses 3) × (score 2 1 10001 ≡ refuses 3) × (score 0 2 10001 ≡ refuses 5)
-unfolding word wordBytes found stored laid
+pub three-five-six : (score 2 0 500000 ≡ refuses 3) × (score 2 1 1000001 ≡ refuses 3) × (score 0 2 1000001 ≡ refuses 5)
+unfolding word long wordBytes longBytes found stored laid
 three-five-six = (refl, refl, refl)
 
 -- the figures Q16 to Q20, E16 to E20, four bytes each

@@ -109,5 +109,5 @@ go-owed file before b so h w =
     let values : said (Accepted (told so)) ≡ accepted (summaryOf (w .held))
     = λ i. accepted (record { year = sh .year i; subjects = n i; students = w .counts .number i; population = sh .population i; rate = sh .rate-is i }) in
     let all : b ≡ written (w .held) before
-    = λ i. record { catalogue = sh .rest-is i .catalogue; table = w .noted .table-is i; figures = sh .rest-is i .figures; ids = w .noted .ids-is i; counts = sh .rest-is i .counts; results = sh .rest-is i .results } in
+    = λ i. record { catalogue = sh .rest-is i .catalogue; table = w .table .is i; figures = sh .rest-is i .figures; ids = w .ids .is i; counts = sh .rest-is i .counts; results = sh .rest-is i .results } in
     record { says = values ∙ sym (ap (mapped summaryOf) e); leaves = all ∙ sym (ap (λ (o : Outcome Held). written (valuesOr nothing o) before) e) }

@@ -1,10 +1,11 @@
 -- What a field adds to the numbers and the buffers, by its tag, and what that asks.
 use Prim.Native.Nat.{ℕ, _+_, _-_, _*_, _≤_, _<_}
 use mathlib.Core.Path.{_≡_}
+use mathlib.Core.Bool.{Bool}
 use mathlib.Core.List.{List}
-use lib.ListN.{length, set}
-use Rattle.paper.specs.Limits.{entryBytes, resultBytes, mostSubjects, mostStudents, mostResults, resultsBytes}
-use Rattle.paper.specs.Words.{_=?_, if_then_else_}
+use lib.ListN.{length, getD, set}
+use Rattle.paper.specs.Limits.{entryBytes, resultBytes, slots, mostSubjects, mostStudents, mostResults, resultsBytes}
+use Rattle.paper.specs.Words.{_=?_, _≠?_, if_then_else_}
 use Rattle.paper.specs.Bytes.{byte, word, long}
 use Rattle.paper.specs.Parts.{laid}
 use Rattle.paper.specs.Rulings.{accepted, Rule, judged}
@@ -22,11 +23,27 @@ NoneBroken rules = judged {A = Unit {0}} rules tt ≡ accepted tt
 abbrev pub nineOrTen : ℕ → ℕ
 nineOrTen n = if n =? 10 then 10 else 9
 
--- what is noted: the score table and the ids
+-- a slot of a subject that a file may have
+pub record Slotted (subject slot : ℕ) : Type 0 where
+  pub few : subject < mostSubjects
+  pub from : 1 ≤ slot
+  pub to : slot ≤ slots
+
+-- its place in the marks, one to a slot, one subject's after another's; and whether it is marked
+abbrev pub slotPlace : ℕ → ℕ → ℕ
+slotPlace subject slot = subject * slots + (slot - 1)
+
+abbrev pub isMarked : List ℕ → ℕ → ℕ → Bool
+isMarked marks subject slot = getD marks (slotPlace subject slot) 0 ≠? 0
+
+-- what is noted: the marks of the slots that have their score, the score table, and the ids
+abbrev pub marksWith : ℕ → List ℕ → List ℕ → List ℕ
+marksWith tag v marks = if tag =? 3 then set marks (slotPlace (word v 0) (byte v 2)) 1 else marks
+
 abbrev pub tableWith : Far → ℕ → List ℕ → List ℕ → List ℕ
 tableWith far tag v table =
     if tag =? 2 then cleared table (far .subjects)
-    else if tag =? 3 then stored table (word v 0) (byte v 2) (word v 3)
+    else if tag =? 3 then stored table (word v 0) (byte v 2) (long v 3)
     else table
 
 abbrev pub idsWith : Far → ℕ → List ℕ → List ℕ → List ℕ

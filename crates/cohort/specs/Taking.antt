@@ -13,7 +13,7 @@ use Rattle.cohort.specs.Held.{Enrolled, Held}
 abbrev pub withYear : Held → List ℕ → Held
 withYear held v = record { year = word v 0; catalogue = held .catalogue; table = held .table; figures = held .figures; students = held .students }
 
--- 2: a catalogue entry, and the subject's row, every slot missing, by a name that unfolds to its 200 bytes only where they are asked for
+-- 2: a catalogue entry, and the subject's row, every slot missing, by a name that unfolds to its bytes only where they are asked for
 unfoldable pub newRow : List ℕ
 newRow = missingRow
 
@@ -22,7 +22,7 @@ withSubject held v = record { year = held .year; catalogue = held .catalogue ++ 
 
 -- 3: a score, in its subject's slot
 abbrev pub withScore : Held → List ℕ → Held
-withScore held v = record { year = held .year; catalogue = held .catalogue; table = stored (held .table) (word v 0) (byte v 2) (word v 3); figures = held .figures; students = held .students }
+withScore held v = record { year = held .year; catalogue = held .catalogue; table = stored (held .table) (word v 0) (byte v 2) (long v 3); figures = held .figures; students = held .students }
 
 -- 4: the figures, four bytes each
 abbrev pub figuresIn : List ℕ → List ℕ

@@ -1,16 +1,17 @@
 // The judging pass: a file is judged field by field, and no lent buffer is written.
 ghost use mathlib.Core.Path.{_≡_};
-ghost use Prim.Native.Nat.{_*_, _≤_};
+ghost use Prim.Native.Nat.{ℕ, _≤_};
+ghost use mathlib.Core.List.{List};
 ghost use lib.ListN.{length};
-ghost use Rattle.paper.specs.Limits.{rowBytes};
+ghost use Rattle.paper.specs.Limits.{mostSubjects};
+ghost use Rattle.paper.specs.Bytes.{byte, word};
 ghost use Rattle.paper.specs.Rulings.{_at_, numberOf, judged};
 ghost use Rattle.paper.specs.Refusals.{fault};
 ghost use Rattle.paper.specs.Screening.{ruled};
-ghost use Rattle.scores.specs.Scores.{found};
 ghost use Rattle.cohort.specs.Held.{Held};
-ghost use Rattle.cohort.specs.Judging.{given, yearRules, subjectRules, scoreRules, figuresRules, studentRules, valueRules};
-ghost use Rattle.cohort.specs.Inner.{verdictOn, fieldOf, Seen};
-ghost use Rattle.cohort.specs.InnerValues.{nineOrTen};
+ghost use Rattle.cohort.specs.Judging.{yearRules, subjectRules, scoreRules, figuresRules, studentRules, valueRules};
+ghost use Rattle.cohort.specs.Inner.{verdictOn, fieldOf, Marks, Seen};
+ghost use Rattle.cohort.specs.InnerValues.{nineOrTen, Slotted, slotPlace, isMarked, marksWith};
 use crate::parts;
 use crate::values;
 use catalogue::entries;
@@ -23,20 +24,16 @@ use paper::bytes;
 use paper::limits::FIGURE_COUNT;
 use paper::limits::LEAST_YEAR;
 use paper::limits::MOST_RESULTS;
+use paper::limits::MOST_SLOTS;
 use paper::limits::MOST_STUDENTS;
 use paper::limits::MOST_YEAR;
-use paper::limits::ROW_BYTES;
 use paper::limits::SLOTS;
-use paper::limits::TABLE_BYTES;
 use paper::limits::TOP_SCORE;
 use paper::ranges::within;
 use paper::refusal::Refusal;
 use paper::screening::Verdict;
 use paper::widening::wide8;
 use paper::widening::wide16;
-use scores::slots;
-use scores::slots::Raw;
-use scores::slots::Slot;
 
 // Tag 1, the year.
 fn judge_year(place: usize, value: &[u8]) -> Verdict
@@ -58,20 +55,38 @@ fn judge_subject(place: usize, value: &[u8]) -> Verdict
     Verdict::Clear
 }
 
-// Whether a slot has its score.
-fn is_given(table: &[u8], subject: usize, slot: u8) -> bool
-    ensures { λ r. ⌜ r ≡ given (found (now (table .entry)) subject slot) ⌝ }
+// The place of a slot in the marks, one byte to a slot.
+fn slot_place(subject: usize, slot: u8) -> usize
+    requires { ⌜ Slotted subject slot ⌝ }
+    ensures { λ r. ⌜ r ≡ slotPlace subject slot ⌝ }
 {
-    let found = slots::look_up(table, subject, Raw(slot));
-    match found {
-        Slot::Missing => false,
-        _ => true,
+    subject * SLOTS + (slot as usize - 1)
+}
+
+// Whether a slot has its score: it is marked.
+fn is_given(marks: &[u8; MOST_SLOTS], subject: usize, slot: u8) -> bool
+    requires { ⌜ Slotted subject slot ⌝ }
+    ensures { λ r. ⌜ r ≡ isMarked (now (marks .entry)) subject slot ⌝ }
+{
+    marks[slot_place(subject, slot)] != 0
+}
+
+// Marks the slot of a score, tag 3.
+fn mark(tag: u8, value: &[u8], marks: &mut [u8; MOST_SLOTS])
+    requires { ⌜ (tag ≡ 3 → Slotted (word (now value) 0) (byte (now value) 2)) ⌝ }
+    ensures { λ _. ⌜ now (marks .exit) ≡ marksWith tag (now (value .entry)) (now (marks .entry)) ⌝ }
+{
+    if tag == 3 {
+        let place = slot_place(bytes::word_at(value, 0) as usize, bytes::byte_at(value, 2));
+        marks[place] = 1;
     }
 }
 
-// Tag 3, a score, by the rows of the subjects before it.
-fn judge_score(place: usize, value: &[u8], subjects: usize, rows: &[u8]) -> Verdict
-    ensures { λ r. ⌜ ruled r ≡ judged (scoreRules subjects (now (rows .entry)) (now (value .entry)) place) tt ⌝ }
+// Tag 3, a score, by the subjects and the marks before it.
+fn judge_score(place: usize, value: &[u8], subjects: usize, marks: &[u8; MOST_SLOTS]) -> Verdict
+    requires { ⌜ subjects ≤ mostSubjects ⌝ }
+    ensures { λ r. ⌜ ((table : List ℕ) → Marks table (now (marks .entry))
+        → ruled r ≡ judged (scoreRules subjects table (now (value .entry)) place) tt) ⌝ }
 {
     let subject = bytes::word_at(value, 0) as usize;
     if subjects <= subject {
@@ -81,10 +96,10 @@ fn judge_score(place: usize, value: &[u8], subjects: usize, rows: &[u8]) -> Verd
     if !within(1, SLOTS as u64, wide8(slot)) {
         return Verdict::Refused(Refusal::WrongScore(place));
     }
-    if TOP_SCORE < bytes::word_at(value, 3) {
+    if TOP_SCORE < bytes::long_at(value, 3) {
         return Verdict::Refused(Refusal::WrongScore(place));
     }
-    if is_given(rows, subject, slot) {
+    if is_given(marks, subject, slot) {
         return Verdict::Refused(Refusal::Again(place));
     }
     Verdict::Clear
@@ -126,18 +141,24 @@ fn judge_student(place: usize, value: &[u8], ids: &[u32]) -> Verdict
     Verdict::Clear
 }
 
-// The values of a field, by what is noted of those before it: past that neither is looked at.
-fn judge_values(place: usize, tag: u8, value: &[u8], far: Far, table: &[u8], ids: &[u32]) -> Verdict
-    requires { ⌜ (far .subjects * rowBytes ≤ length (now table)) × (far .students ≤ length (now ids)) ⌝ }
-    ensures { λ r. ⌜ ((held : Held) → Seen far held (now (table .entry)) (now (ids .entry))
+// The values of a field, by what is noted of those before it: the marks, and the ids.
+fn judge_values(
+    place: usize,
+    tag: u8,
+    value: &[u8],
+    far: Far,
+    marks: &[u8; MOST_SLOTS],
+    ids: &[u32],
+) -> Verdict
+    requires { ⌜ (far .subjects ≤ mostSubjects) × (far .students ≤ length (now ids)) ⌝ }
+    ensures { λ r. ⌜ ((held : Held) → Seen far held (now (marks .entry)) (now (ids .entry))
         → ruled r ≡ judged (valueRules held (fieldOf tag (now (value .entry))) place) tt) ⌝ }
 {
-    let end = far.subjects * ROW_BYTES;
     let students = far.students;
     match tag {
         1 => judge_year(place, value),
         2 => judge_subject(place, value),
-        3 => judge_score(place, value, far.subjects, &table[..end]),
+        3 => judge_score(place, value, far.subjects, marks),
         4 => judge_figures(place, value),
         5 => judge_student(place, value, &ids[..students]),
         _ => Verdict::Clear,
@@ -148,7 +169,7 @@ fn judge_values(place: usize, tag: u8, value: &[u8], far: Far, table: &[u8], ids
 pub(crate) fn judge(file: &[u8]) -> Verdict
     ensures { λ r. ⌜ ruled r ≡ verdictOn (now (file .entry)) ⌝ }
 {
-    let mut table = [0u8; TABLE_BYTES];
+    let mut marks = [0u8; MOST_SLOTS];
     let mut ids = [0u32; MOST_STUDENTS];
     let mut far = order::start();
     let mut at: usize = 0;
@@ -162,10 +183,11 @@ pub(crate) fn judge(file: &[u8]) -> Verdict
         let a = at + HEAD_BYTES;
         let e = a + length;
         let value = &file[a..e];
-        if let Verdict::Refused(x) = judge_values(at, tag, value, far, &table, &ids) {
+        if let Verdict::Refused(x) = judge_values(at, tag, value, far, &marks, &ids) {
             return Verdict::Refused(x);
         }
-        values::note(far, tag, value, &mut table, &mut ids);
+        mark(tag, value, &mut marks);
+        values::note_id(far, tag, value, &mut ids);
         far = order::further(far, tag);
         at = e;
     }

@@ -3,12 +3,14 @@ ghost use mathlib.Core.Path.{_≡_};
 ghost use Prim.Native.Nat.{_+_, _-_, _*_};
 ghost use lib.ListN.{set};
 ghost use Rattle.paper.specs.Limits.{resultBytes};
+ghost use Rattle.paper.specs.Bytes.{byte, word, long};
 ghost use Rattle.paper.specs.Parts.{laid};
+ghost use Rattle.scores.specs.Rows.{stored};
 ghost use Rattle.curve.specs.Population.{populationRules};
 ghost use Rattle.cohort.specs.Taking.{figuresIn};
 ghost use Rattle.cohort.specs.Promise.{lent};
 ghost use Rattle.cohort.specs.Inner.{Ready, Whole};
-ghost use Rattle.cohort.specs.InnerValues.{NoneBroken, figuresTo, resultTo, numbersWith, rest, restWith, Room, ResultRoom};
+ghost use Rattle.cohort.specs.InnerValues.{NoneBroken, tableWith, figuresTo, resultTo, numbersWith, rest, restWith, Room, ResultRoom};
 use crate::parts;
 use crate::steps;
 use crate::steps::SoFar;
@@ -17,6 +19,7 @@ use fields::heads;
 use fields::heads::HEAD_BYTES;
 use fields::heads::Head;
 use fields::order;
+use fields::order::Far;
 use paper::bytes;
 use paper::limits::CATALOGUE_BYTES;
 use paper::limits::ENTRY_BYTES;
@@ -25,6 +28,30 @@ use paper::limits::MOST_STUDENTS;
 use paper::limits::RESULT_BYTES;
 use paper::limits::RESULTS_BYTES;
 use paper::limits::TABLE_BYTES;
+use scores::rows;
+use scores::slots::Raw;
+use scores::slots::Scaled;
+
+// A score, in its slot of the subject's row.
+fn store_score(value: &[u8], table: &mut [u8])
+    ensures { λ _. ⌜ now (table .exit) ≡ stored (now (table .entry)) (word (now (value .entry)) 0) (byte (now (value .entry)) 2) (long (now (value .entry)) 3) ⌝ }
+{
+    let subject = bytes::word_at(value, 0) as usize;
+    let slot = bytes::byte_at(value, 2);
+    let score = bytes::long_at(value, 3);
+    rows::store(table, subject, Raw(slot), Scaled(score));
+}
+
+// Tags 2 and 3 in the score table: a subject's row begins with every slot missing, and a score goes to its slot.
+fn take_scores(far: Far, tag: u8, value: &[u8], table: &mut [u8; TABLE_BYTES])
+    ensures { λ _. ⌜ now (table .exit) ≡ tableWith far tag (now (value .entry)) (now (table .entry)) ⌝ }
+{
+    match tag {
+        2 => rows::clear(table, far.subjects),
+        3 => store_score(value, table),
+        _ => {}
+    }
+}
 
 // Tag 4, the figures, with Y and r.
 fn take_figures(value: &[u8], so: SoFar, figures: &mut [u32; FIGURE_COUNT]) -> SoFar
@@ -65,7 +92,7 @@ fn take_result(
     next
 }
 
-// A field of a judged file, beside what is noted of it: the numbers, and the other buffers.
+// A field of a judged file: the numbers, and the buffers beside the score table and the ids.
 fn take_field(
     so: SoFar,
     tag: u8,
@@ -127,7 +154,8 @@ pub(crate) fn take(
         let a = at + HEAD_BYTES;
         let e = a + length;
         let value = &file[a..e];
-        values::note(far, tag, value, table, ids);
+        take_scores(far, tag, value, table);
+        values::note_id(far, tag, value, ids);
         so = take_field(so, tag, value, catalogue, figures, counts, results);
         so.far = order::further(far, tag);
         at = e;

@@ -20,21 +20,25 @@ ones n = replicate n one
 pub out-of-order :
     (afterEach (2 ∷ 3 ∷ 4 ∷ 5 ∷ 6 ∷ []) 1 2 ≡ ones 5)
     × (afterEach (4 ∷ 5 ∷ 6 ∷ []) 2 5 ≡ ones 3)
-    × (afterEach (5 ∷ 6 ∷ []) 3 5 ≡ ones 2)
+    × (afterEach (5 ∷ 6 ∷ []) 3 7 ≡ ones 2)
     × (afterEach (5 ∷ 6 ∷ []) 4 40 ≡ ones 2)
     × (afterEach (0 ∷ 1 ∷ 2 ∷ []) 5 4 ≡ ones 3)
     × (afterEach (0 ∷ 1 ∷ 2 ∷ 3 ∷ []) 6 6 ≡ ones 4)
 out-of-order = (refl, refl, refl, refl, refl, refl)
 
--- year 2, catalogue entry 5, subject 2, slot 1 and score 2, Q then E 40, id 4, result 6: a byte too few or too many, on the side that is not in ByHand
+-- year 2, catalogue entry 5, subject 2, slot 1 and score 4, Q then E 40, id 4, result 6: a byte too few or too many, on the side that is not in ByHand
 pub lengths :
     (judgedAfter 0 1 1 ≡ one)
     × (judgedAfter 1 2 6 ≡ one)
-    × (judgedAfter 1 3 4 ≡ one)
+    × (judgedAfter 1 3 8 ≡ one)
     × (judgedAfter 1 4 41 ≡ one)
     × (judgedAfter 4 5 3 ≡ one)
     × (judgedAfter 5 6 7 ≡ one)
 lengths = (refl, refl, refl, refl, refl, refl)
+
+-- a score has seven bytes: the five of a score in hundredths are a wrong length, after each tag that it may follow
+pub score-lengths : (map (judgedAfter 1 3) (5 ∷ 6 ∷ 7 ∷ 8 ∷ []) ≡ one ∷ one ∷ good ∷ one ∷ []) × (afterEach (1 ∷ 2 ∷ 3 ∷ []) 3 5 ≡ ones 3)
+score-lengths = (refl, refl)
 
 -- a two-byte length: no value, and a value of 256 bytes more
 pub two-byte-lengths : (judgedAfter 0 1 0 ≡ one) × (judgedAfter 0 1 258 ≡ one) × (judgedAfter 1 4 296 ≡ one)
@@ -46,7 +50,7 @@ unknown = (refl, refl, refl)
 
 -- 64 subjects and 512 students leave room for every other tag; 16 results are one student's
 pub own-limits :
-    (judgedWith (far 2 64 0 0) 3 5 ≡ good)
+    (judgedWith (far 2 64 0 0) 3 7 ≡ good)
     × (judgedWith (far 3 64 0 0) 4 40 ≡ good)
     × (judgedWith (far 4 64 0 0) 5 4 ≡ good)
     × (judgedWith (far 5 64 512 0) 6 6 ≡ good)

@@ -27,7 +27,7 @@ scoreIn kind counts slot =
     let j = first (length counts) (λ i. slotFor kind i =? slot) in
     if j <? length counts then score counts j else missing
 
--- VET takes no counts and gets 50.00 in slot 1, the rest missing
+-- VET takes no counts and gets 50.0000 in slot 1, the rest missing
 abbrev pub vetIn : ℕ → ℕ
 vetIn slot = if slot =? 1 then 50 * scoreParts else missing
 

@@ -52,7 +52,7 @@ fn write(kind: u8, counts: &[u32], total: u64, row: &mut [u8])
     while j < counts.len() {
         let count = wide32(counts[j]);
         let score = rounding::nearest(TOP_SCORE as u64 * (count + 2 * below), 2 * total);
-        rows::store(row, 0, slot_for(kind, j), Scaled(score as u16));
+        rows::store(row, 0, slot_for(kind, j), Scaled(score as u32));
         below += count;
         j += 1;
     }

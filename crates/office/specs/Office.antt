@@ -1,7 +1,9 @@
 -- The office's example file, and its listing.
-use Prim.Native.Nat.{ℕ, zero, suc, _*_, _/_, _%_}
+use Prim.Native.Nat.{ℕ, zero, suc, _*_}
 use mathlib.Core.List.{List, [], _∷_, _++_}
+use Rattle.paper.specs.Limits.{scoreParts}
 use Rattle.paper.specs.Letters.{letterA, letterB}
+use Rattle.paper.specs.Bytes.{longBytes}
 use Rattle.results.specs.Results.{Student}
 use Rattle.bestset.specs.Examples.{catalogue, table, seven, eight, nine, eleven}
 use Rattle.curve.specs.Examples.{aged17}
@@ -17,7 +19,7 @@ abbrev pub subject : ℕ → ℕ → ℕ → List ℕ → List ℕ
 subject kind strand identity rest = field 2 (kind ∷ strand ∷ 0 ∷ 0 ∷ identity ∷ []) rest
 
 abbrev pub given : ℕ → ℕ → ℕ → List ℕ → List ℕ
-given place slot value rest = field 3 (0 ∷ place ∷ slot ∷ value / 256 ∷ value % 256 ∷ []) rest
+given place slot value rest = field 3 (0 ∷ place ∷ slot ∷ longBytes value) rest
 
 abbrev pub student : ℕ → List ℕ → List ℕ
 student id rest = field 5 (0 ∷ 0 ∷ 0 ∷ id ∷ []) rest
@@ -28,7 +30,7 @@ result place letter number rest = field 6 (0 ∷ place ∷ letter ∷ number ∷
 -- a General row: slot j scores j.00
 unfoldable pub row : ℕ → ℕ → ℕ → List ℕ → List ℕ
 row place zero slot rest = rest
-row place (suc n) slot rest = given place slot (100 * slot) (row place n (suc slot) rest)
+row place (suc n) slot rest = given place slot (slot * scoreParts) (row place n (suc slot) rest)
 
 abbrev pub general : ℕ → List ℕ → List ℕ
 general place rest = row place 100 1 rest
@@ -59,7 +61,7 @@ closing =
 
 -- the scores stand between
 abbrev pub office : List ℕ
-office = opening (general 0 (general 1 (general 2 (general 3 (given 4 90 9500 (general 5 (given 6 70 6000 closing)))))))
+office = opening (general 0 (general 1 (general 2 (general 3 (given 4 90 (95 * scoreParts) (general 5 (given 6 70 (60 * scoreParts) closing)))))))
 
 -- what the file holds
 abbrev pub enrolled : ℕ → Student → Enrolled

@@ -2,7 +2,8 @@
 use mathlib.Core.Path.{_≡_, refl}
 use mathlib.Core.Bool.{true, false}
 use mathlib.Core.List.{[], _∷_}
-use Rattle.paper.specs.Limits.{entryBytes, resultBytes, figureBytes, mostSubjects, mostResults, slots, rowBytes, missing, missingByte, scoreParts, topScore, mostCount, members, leastGeneral, mostSpan, mostAggregate, firstYear, leastYear, mostYear, figureCount, mostFigure, mostPopulation, leastRate, mostRate, topBand, bandCount, mostEntry, mostStudents, mostTallied, mostValues, tallyCount, mostBytes, catalogueBytes, tableBytes, resultsBytes}
+use Rattle.paper.specs.Limits.{entryBytes, resultBytes, figureBytes, mostSubjects, mostResults, slots, slotBytes, rowBytes, missing, missingByte, wholeScore, scoreParts, topScore, mostCount, members, leastGeneral, mostSpan, mostAggregate, firstYear, leastYear, mostYear, figureCount, mostFigure, mostPopulation, leastRate, mostRate, topBand, bandCount, mostEntry, mostStudents, mostTallied, mostValues, tallyCount, mostBytes, catalogueBytes, mostSlots, tableBytes, resultsBytes}
+use Rattle.paper.specs.Units.{hundredths}
 use Rattle.paper.specs.Letters.{letterA, letterB, letterC, letterD, letterE, letterN, letterY}
 use Rattle.paper.specs.Ranges.{within}
 use Rattle.paper.specs.Rounding.{nearest}
@@ -26,9 +27,12 @@ pub numbers :
     × (fault (WrongCount 40) ≡ 15 at 40)
 numbers = (refl, refl, refl, refl, refl, refl, refl, refl, refl, refl, refl)
 
--- a catalogue entry is 5 bytes, a result 6, a figure 4; 100 slots of 16 bits per subject, 200 bytes; 65535 means missing
-pub widths : (entryBytes ≡ 5) × (resultBytes ≡ 6) × (figureBytes ≡ 4) × (slots ≡ 100) × (rowBytes ≡ 200) × (missing ≡ 65535) × (missingByte ≡ 255)
-widths = (refl, refl, refl, refl, refl, refl, refl)
+-- a catalogue entry is 5 bytes, a result 6, a figure 4; 100 slots of 32 bits per subject, 400 bytes; 4294967295 means missing, and each of its
+-- four bytes is 255
+pub widths : (entryBytes ≡ 5) × (resultBytes ≡ 6) × (figureBytes ≡ 4) × (slots ≡ 100) × (slotBytes ≡ 4) × (rowBytes ≡ 400) × (missing ≡ 4294967295)
+    × (longBytes missing ≡ missingByte ∷ missingByte ∷ missingByte ∷ missingByte ∷ []) × (missingByte ≡ 255)
+unfolding wordBytes longBytes
+widths = (refl, refl, refl, refl, refl, refl, refl, refl, refl)
 
 -- 64 subjects, 16 results a student, 512 students in a file or by direct count, 100000 by tally, 65536 file bytes; and the buffers that hold them
 pub limits :
@@ -39,13 +43,16 @@ pub limits :
     × (mostValues ≡ 100000)
     × (mostBytes ≡ 65536)
     × (catalogueBytes ≡ 320)
-    × (tableBytes ≡ 12800)
+    × (mostSlots ≡ 6400)
+    × (tableBytes ≡ 25600)
     × (resultsBytes ≡ 49152)
-limits = (refl, refl, refl, refl, refl, refl, refl, refl, refl)
+limits = (refl, refl, refl, refl, refl, refl, refl, refl, refl, refl)
 
--- five of a set, four of them General, a latest year of at most four more than the earliest; scores in hundredths, to 10000, an aggregate to 50000, 50001 counts; students at a result to 1000000
-pub sets : (members ≡ 5) × (leastGeneral ≡ 4) × (mostSpan ≡ 4) × (scoreParts ≡ 100) × (topScore ≡ 10000) × (mostAggregate ≡ 50000) × (tallyCount ≡ 50001) × (mostCount ≡ 1000000)
-sets = (refl, refl, refl, refl, refl, refl, refl, refl)
+-- five of a set, four of them General, a latest year of at most four more than the earliest; scores in ten-thousandths, to 1000000, an aggregate in
+-- hundredths to 50000, 50001 counts; students at a result to 1000000
+pub sets : (members ≡ 5) × (leastGeneral ≡ 4) × (mostSpan ≡ 4) × (wholeScore ≡ 100) × (scoreParts ≡ 10000) × (topScore ≡ 1000000) × (hundredths ≡ 100) × (mostAggregate ≡ 50000)
+    × (tallyCount ≡ 50001) × (mostCount ≡ 1000000)
+sets = (refl, refl, refl, refl, refl, refl, refl, refl, refl, refl)
 
 -- results from 1980, assessment years 1984 to 9999
 pub years : (firstYear ≡ 1980) × (leastYear ≡ 1984) × (mostYear ≡ 9999)

@@ -8,8 +8,8 @@ use mathlib.Core.Path.{_≡_, refl, sym, ap, _∙_}
 use mathlib.Core.Bool.{Bool}
 use mathlib.Core.Logic.{_⊎_, inl, inr, ⊎-elim}
 use mathlib.Core.List.{List, [], _∷_, _++_, append-assoc}
-use lib.ListN.{length, take, drop, set, length-append}
-use lib.Seq.{sets-eq}
+use lib.ListN.{length, take, drop, set, length-append, List·getD-append}
+use lib.Seq.{sets-eq, getD-append-add}
 use borrow.Author.Tests.{le-leb, lt-leb}
 use Rattle.paper.specs.Lists.{pick}
 use Rattle.paper.specs.Bytes.{byte, word, long, wordBytes, longBytes, recordAt}
@@ -70,6 +70,45 @@ word-off xs a part k h u =
     let high = laid-off xs a part h k (⊎-elim (λ g. inl (omega arith)) (λ g. inr (omega arith)) u) in
     let low = laid-off xs a part h (k + 1) (⊎-elim (λ g. inl (omega arith)) (λ g. inr (omega arith)) u) in
     omega arith
+
+pub long-in : (xs : List ℕ) (a : ℕ) (part : List ℕ) (k : ℕ) → a ≤ length xs → k + 4 ≤ length part → long (laid xs a part) (a + k) ≡ long part k
+unfolding long
+long-in xs a part k h g =
+    let e : a + k + 2 ≡ a + (k + 2) = omega arith in
+    let high = word-in xs a part k h (omega arith) in
+    let low = ap (word (laid xs a part)) e ∙ word-in xs a part (k + 2) h (omega arith) in
+    omega arith
+
+pub long-off : (xs : List ℕ) (a : ℕ) (part : List ℕ) (k : ℕ) → a ≤ length xs → (k + 4 ≤ a) ⊎ (a + length part ≤ k) → long (laid xs a part) k ≡ long xs k
+unfolding long
+long-off xs a part k h u =
+    let high = word-off xs a part k h (⊎-elim (λ g. inl (omega arith)) (λ g. inr (omega arith)) u) in
+    let low = word-off xs a part (k + 2) h (⊎-elim (λ g. inl (omega arith)) (λ g. inr (omega arith)) u) in
+    omega arith
+
+-- a number in the first of two lists, and in the second
+pub long-before : (xs ys : List ℕ) (k : ℕ) → k + 4 ≤ length xs → long (xs ++ ys) k ≡ long xs k
+unfolding word long
+long-before xs ys k h =
+    omega (
+      arith,
+      List·getD-append xs ys 0 k (omega arith),
+      List·getD-append xs ys 0 (k + 1) (omega arith),
+      List·getD-append xs ys 0 (k + 2) (omega arith),
+      List·getD-append xs ys 0 (k + 2 + 1) (omega arith),
+    )
+
+pub long-after : (xs ys : List ℕ) (k : ℕ) → long (xs ++ ys) (length xs + k) ≡ long ys k
+unfolding word long
+long-after xs ys k =
+    let after : (i j : ℕ) → i ≡ length xs + j → byte (xs ++ ys) i ≡ byte ys j = λ i j e. ap (byte (xs ++ ys)) e ∙ getD-append-add xs ys j 0 in
+    omega (
+      arith,
+      after (length xs + k) k refl,
+      after (length xs + k + 1) (k + 1) (omega arith),
+      after (length xs + k + 2) (k + 2) (omega arith),
+      after (length xs + k + 2 + 1) (k + 2 + 1) (omega arith),
+    )
 
 -- two bytes put one after another, and four as two and two; with no room there are none
 pub word-put : (xs : List ℕ) (i n : ℕ) → i + 2 ≤ length xs → set (set xs i (n / 256)) (i + 1) (n % 256) ≡ put xs i (wordBytes n)

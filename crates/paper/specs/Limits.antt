@@ -1,5 +1,6 @@
 -- The paper's widths, limits and tops, each by one name; what is a product of others is derived from them.
-use Prim.Native.Nat.{ℕ, _+_, _*_, _/_}
+use Prim.Native.Nat.{ℕ, _+_, _*_, _%_}
+use Rattle.paper.specs.Units.{hundredths, tenThousandths}
 
 -- the bytes of a catalogue entry, of a result, of a figure; the subjects of a catalogue, the results of a student
 abbrev pub entryBytes : ℕ
@@ -18,33 +19,37 @@ abbrev pub mostResults : ℕ
 mostResults = 16
 
 -- the score table: the slots of a row, the bytes of a slot and of a row, what a missing slot holds and each byte of it; the parts of one
--- in which its scores are, and the greatest score, 100
+-- in which its scores are, and the greatest score, 100, in these
 abbrev pub slots : ℕ
 slots = 100
 
 abbrev pub slotBytes : ℕ
-slotBytes = 2
+slotBytes = 4
 
 abbrev pub rowBytes : ℕ
 rowBytes = slots * slotBytes
 
 abbrev pub missing : ℕ
-missing = 65535
+missing = 4294967295
 
 abbrev pub missingByte : ℕ
-missingByte = missing / 256
+missingByte = missing % 256
+
+abbrev pub wholeScore : ℕ
+wholeScore = 100
 
 abbrev pub scoreParts : ℕ
-scoreParts = 100
+scoreParts = tenThousandths
 
 abbrev pub topScore : ℕ
-topScore = 100 * scoreParts
+topScore = wholeScore * scoreParts
 
 -- the greatest count of students at a result, and of all in a subject
 abbrev pub mostCount : ℕ
 mostCount = 1000000
 
--- the members of a set, the Generals that it has at least, the years by which its latest may exceed its earliest, and the greatest aggregate
+-- the members of a set, the Generals that it has at least, the years by which its latest may exceed its earliest, and the greatest aggregate,
+-- five times the greatest score, in hundredths
 abbrev pub members : ℕ
 members = 5
 
@@ -55,7 +60,7 @@ abbrev pub mostSpan : ℕ
 mostSpan = 4
 
 abbrev pub mostAggregate : ℕ
-mostAggregate = members * topScore
+mostAggregate = members * wholeScore * hundredths
 
 -- the first year of a result, and the assessment years
 abbrev pub firstYear : ℕ
@@ -114,12 +119,15 @@ mostValues = 100000
 abbrev pub tallyCount : ℕ
 tallyCount = mostAggregate + 1
 
--- the bytes that a file has at most; a whole catalogue, a table, and all results of a file
+-- the bytes that a file has at most; a whole catalogue, the slots of a whole table and its bytes, and all results of a file
 abbrev pub mostBytes : ℕ
 mostBytes = 65536
 
 abbrev pub catalogueBytes : ℕ
 catalogueBytes = mostSubjects * entryBytes
+
+abbrev pub mostSlots : ℕ
+mostSlots = mostSubjects * slots
 
 abbrev pub tableBytes : ℕ
 tableBytes = mostSubjects * rowBytes

@@ -1,4 +1,5 @@
--- The parts of one in which the paper counts: aggregates in hundredths, percentiles in thousandths, rates in ten-thousandths, participation in millionths.
+-- The parts of one in which the paper counts: aggregates in hundredths, percentiles in thousandths, scores and rates in ten-thousandths,
+-- participation in millionths.
 use Prim.Native.Nat.{ℕ}
 
 abbrev pub hundredths : ℕ

@@ -25,7 +25,7 @@ pub record In (line text : List ℕ) : Type 0 where
   pub after : List ℕ
   pub text-is : text ≡ before ++ (line ++ after)
 
--- the j-th of the eligible: the aggregate is the greatest total over all admissible sets of its results, the band is that of the best
+-- the j-th of the eligible: the aggregate is that of the greatest total over all admissible sets of its results, the band is that of the best
 -- placement, over all placements, of the eligible, and these are printed with its rank and percentile among the eligible
 pub record Estimated (file : List ℕ) (held : Held) (s : Enrolled) (j : ℕ) : Type 0 where
   pub values : Values

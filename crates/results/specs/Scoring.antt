@@ -11,7 +11,7 @@ use Rattle.results.specs.declared.reading.Result.{Result}
 unfoldable pub scoreFound : List ℕ → Result → Found
 scoreFound table r = found table (r .subject) (slotOf (r .entry .kind) (r .letter) (r .number))
 
--- a score in hundredths; 0 where there is none
+-- a score in ten-thousandths; 0 where there is none
 abbrev pub worth : Found → ℕ
 worth (scaled v) = v
 worth absent = 0

@@ -4,7 +4,6 @@ ghost use Rattle.scores.specs.Promise.{looked};
 ghost use Rattle.results.specs.Scoring.{scoreFound, worth, ownIdentity};
 use crate::reading::Result;
 use catalogue::kinds;
-use paper::widening::as_long;
 use scores::slots;
 use scores::slots::Slot;
 
@@ -21,7 +20,7 @@ pub fn score_of(slot: Slot) -> u32
     ensures { λ r. ⌜ r ≡ worth (looked slot) ⌝ }
 {
     match slot {
-        Slot::Score(score) => as_long(score.0),
+        Slot::Score(score) => score.0,
         Slot::Missing => 0,
         Slot::Over => 0,
     }

@@ -13,12 +13,12 @@ use borrow.Rule.Slice.PartMut.{putMid}
 use Rattle.paper.specs.Limits.{slots, slotBytes, rowBytes, missingByte}
 use Rattle.paper.specs.Lists.{pick}
 use Rattle.paper.specs.Ranges.{within}
-use Rattle.paper.specs.Bytes.{wordBytes}
+use Rattle.paper.specs.Bytes.{longBytes}
 use Rattle.paper.specs.Parts.{laid, put}
 use Rattle.paper.proofs.Booleans.{both-true}
 use Rattle.paper.proofs.Ranging.{within-true}
 use Rattle.paper.proofs.Parted.{put-there, put-none, length-put, put-laid, laid-inside}
-use Rattle.paper.proofs.Written.{length-word}
+use Rattle.paper.proofs.Written.{length-long}
 use Rattle.scores.specs.Scores.{rows, hasSlot, inRow, slotAt}
 use Rattle.scores.specs.Rows.{missingRow, withRow, cleared, stored}
 
@@ -53,24 +53,24 @@ unfolding cleared
 cleared-none table subject h = put-none table (rowBytes * subject) missingRow (omega (arith, length-missing))
 
 module _ (table : List ℕ) (subject slot score : ℕ) where
-  pub stored-slot : hasSlot table subject slot ≡ true → stored table subject slot score ≡ laid table (slotAt subject slot) (wordBytes score)
+  pub stored-slot : hasSlot table subject slot ≡ true → stored table subject slot score ≡ laid table (slotAt subject slot) (longBytes score)
   unfolding stored
-  stored-slot e = ap (λ (b : Bool). pick b (laid table (slotAt subject slot) (wordBytes score)) table) e
+  stored-slot e = ap (λ (b : Bool). pick b (laid table (slotAt subject slot) (longBytes score)) table) e
 
   pub stored-none : hasSlot table subject slot ≡ false → stored table subject slot score ≡ table
   unfolding stored
-  stored-none e = ap (λ (b : Bool). pick b (laid table (slotAt subject slot) (wordBytes score)) table) e
+  stored-none e = ap (λ (b : Bool). pick b (laid table (slotAt subject slot) (longBytes score)) table) e
 
   -- a slot has room in its row, and a score put there is stored in the table
   pub stored-row : hasSlot table subject slot ≡ true
-      → laid table (rowBytes * subject) (put (take rowBytes (drop (rowBytes * subject) table)) (inRow slot) (wordBytes score)) ≡ stored table subject slot score
+      → laid table (rowBytes * subject) (put (take rowBytes (drop (rowBytes * subject) table)) (inRow slot) (longBytes score)) ≡ stored table subject slot score
   stored-row e =
       let h = slot-there table subject slot e in
       let row = take rowBytes (drop (rowBytes * subject) table) in
       let l : length row ≡ rowBytes = row-length table subject (h .0) in
-      let w : length (wordBytes score) ≡ slotBytes = length-word score in
-      ap (laid table (rowBytes * subject)) (put-there row (inRow slot) (wordBytes score) (omega arith))
-      ∙ laid-inside table (rowBytes * subject) rowBytes (inRow slot) (wordBytes score) (omega arith) (omega arith)
+      let w : length (longBytes score) ≡ slotBytes = length-long score in
+      ap (laid table (rowBytes * subject)) (put-there row (inRow slot) (longBytes score) (omega arith))
+      ∙ laid-inside table (rowBytes * subject) rowBytes (inRow slot) (longBytes score) (omega arith) (omega arith)
       ∙ sym (stored-slot e)
 
 -- a row that was lent on: filled, it is cleared; with a score put into it, the score is stored
@@ -94,11 +94,11 @@ module _ (table : List ℕ) (subject : ℕ) (row : List ℕ) where
       row-put h (ap length f ∙ length-missing) ∙ ap (withRow table subject) f
 
   pub row-scored : (slot score : ℕ) → hasSlot table subject slot ≡ true
-      → row ≡ put (take (rowBytes * subject + rowBytes - rowBytes * subject) (drop (rowBytes * subject) table)) (inRow slot) (wordBytes score)
+      → row ≡ put (take (rowBytes * subject + rowBytes - rowBytes * subject) (drop (rowBytes * subject) table)) (inRow slot) (longBytes score)
       → putMid (rowBytes * subject) (rowBytes * subject + rowBytes - rowBytes * subject) table row ≡ stored table subject slot score
   row-scored slot score t e =
-      let f = e ∙ ap (λ (z : List ℕ). put z (inRow slot) (wordBytes score)) lent-row in
-      let l = ap length f ∙ length-put (take rowBytes (drop (rowBytes * subject) table)) (inRow slot) (wordBytes score) ∙ row-length table subject (slot-there table subject slot t .0) in
+      let f = e ∙ ap (λ (z : List ℕ). put z (inRow slot) (longBytes score)) lent-row in
+      let l = ap length f ∙ length-put (take rowBytes (drop (rowBytes * subject) table)) (inRow slot) (longBytes score) ∙ row-length table subject (slot-there table subject slot t .0) in
       put-laid (rowBytes * subject) rowBytes table row l ∙ ap (laid table (rowBytes * subject)) f ∙ stored-row table subject slot score t
 
 -- another row is before the row or after it

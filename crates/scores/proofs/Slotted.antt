@@ -3,26 +3,25 @@ use Prim.Native.Nat.{ℕ, zero, suc, _+_, _*_, _-_, _<_, _≤_}
 use native.Mathlib.Omega.{arith}
 use mathlib.Core.Path.{_≡_, refl, sym, ap, _∙_}
 use mathlib.Core.List.{List, _++_}
-use lib.ListN.{length, length-append, List·getD-append}
-use lib.Seq.{getD-append-add}
+use lib.ListN.{length, length-append}
 use borrow.Author.Tests.{eq-eqb, ne-eqb}
 use Rattle.paper.specs.Limits.{slots, slotBytes, rowBytes, missing}
 use Rattle.paper.specs.Words.{_=?_, if_then_else_}
-use Rattle.paper.specs.Bytes.{byte, word, wordBytes}
+use Rattle.paper.specs.Bytes.{long, wordBytes, longBytes}
 use Rattle.paper.specs.Parts.{laid}
 use Rattle.paper.proofs.Parted.{laid-start, laid-all, laid-past, length-put, put-there}
-use Rattle.paper.proofs.Written.{length-word, word-written, word-in}
+use Rattle.paper.proofs.Written.{length-long, long-written, long-before, long-after, long-in}
 use Rattle.scores.specs.Scores.{rows, inRow, slotAt, valued, found}
 use Rattle.scores.specs.Rows.{slotsFrom, rowOf, missingRow, withRow, cleared, stored}
 use Rattle.scores.proofs.Rowed.{there-slot, stored-slot, length-missing, cleared-row}
 use Rattle.scores.proofs.Filling.{found-there}
 
--- two bytes to a slot
+-- the bytes of a slot to each
 length-slots : (k n : ℕ) (holds : ℕ → ℕ) → length (slotsFrom k n holds) ≡ slotBytes * n
 unfolding slotsFrom
 length-slots k zero holds = refl
 length-slots k (suc n) holds =
-    length-append (wordBytes (holds k)) (slotsFrom (suc k) n holds) ∙ omega (arith, length-word (holds k), length-slots (suc k) n holds)
+    length-append (longBytes (holds k)) (slotsFrom (suc k) n holds) ∙ omega (arith, length-long (holds k), length-slots (suc k) n holds)
 
 pub length-row : (holds : ℕ → ℕ) → length (rowOf holds) ≡ rowBytes
 length-row holds = length-slots 1 slots holds
@@ -32,63 +31,54 @@ slots-same : (k n : ℕ) (f g : ℕ → ℕ) → ((slot : ℕ) → k ≤ slot �
 unfolding slotsFrom
 slots-same k zero f g h = refl
 slots-same k (suc n) f g h =
-    ap (λ (v : ℕ). wordBytes v ++ slotsFrom (suc k) n f) (h k (omega arith) (omega arith))
-    ∙ ap (λ (z : List ℕ). wordBytes (g k) ++ z) (slots-same (suc k) n f g (λ slot a b. h slot (omega arith) (omega arith)))
+    ap (λ (v : ℕ). longBytes v ++ slotsFrom (suc k) n f) (h k (omega arith) (omega arith))
+    ∙ ap (λ (z : List ℕ). longBytes (g k) ++ z) (slots-same (suc k) n f g (λ slot a b. h slot (omega arith) (omega arith)))
 
 pub row-same : (f g : ℕ → ℕ) → ((slot : ℕ) → 1 ≤ slot → slot ≤ slots → f slot ≡ g slot) → rowOf f ≡ rowOf g
 row-same f g h = slots-same 1 slots f g (λ slot a b. h slot a (omega arith))
 
 -- what a slot holds
-word-slots : (k n : ℕ) (holds : ℕ → ℕ) (i : ℕ) → i < n → word (slotsFrom k n holds) (slotBytes * i) ≡ holds (k + i)
-unfolding slotsFrom word
-word-slots k zero holds i h = absurd (omega arith)
-word-slots k (suc n) holds zero h =
+long-slots : (k n : ℕ) (holds : ℕ → ℕ) (i : ℕ) → i < n → long (slotsFrom k n holds) (slotBytes * i) ≡ holds (k + i)
+unfolding slotsFrom
+long-slots k zero holds i h = absurd (omega arith)
+long-slots k (suc n) holds zero h =
     let e : k ≡ k + 0 = omega arith in
-    let l = length-word (holds k) in
-    let high = List·getD-append (wordBytes (holds k)) (slotsFrom (suc k) n holds) 0 0 (omega arith) in
-    let low = List·getD-append (wordBytes (holds k)) (slotsFrom (suc k) n holds) 0 1 (omega arith) in
-    let w = word-written (holds k) in
-    let z : word (wordBytes (holds k) ++ slotsFrom (suc k) n holds) 0 ≡ holds k = omega arith in
-    z ∙ ap holds e
-word-slots k (suc n) holds (suc i) h =
+    long-before (longBytes (holds k)) (slotsFrom (suc k) n holds) 0 (omega (arith, length-long (holds k))) ∙ long-written (holds k) ∙ ap holds e
+long-slots k (suc n) holds (suc i) h =
     let rest = slotsFrom (suc k) n holds in
-    let e : slotBytes * suc i ≡ length (wordBytes (holds k)) + slotBytes * i = omega (arith, length-word (holds k)) in
+    let e : slotBytes * suc i ≡ length (longBytes (holds k)) + slotBytes * i = omega (arith, length-long (holds k)) in
     let f : suc k + i ≡ k + suc i = omega arith in
-    let high = getD-append-add (wordBytes (holds k)) rest (slotBytes * i) 0 in
-    let g : length (wordBytes (holds k)) + slotBytes * i + 1 ≡ length (wordBytes (holds k)) + (slotBytes * i + 1) = omega arith in
-    let low = ap (byte (wordBytes (holds k) ++ rest)) g ∙ getD-append-add (wordBytes (holds k)) rest (slotBytes * i + 1) 0 in
-    let z : word (wordBytes (holds k) ++ rest) (length (wordBytes (holds k)) + slotBytes * i) ≡ word rest (slotBytes * i) = omega arith in
-    ap (word (wordBytes (holds k) ++ rest)) e ∙ z ∙ word-slots (suc k) n holds i (omega arith) ∙ ap holds f
+    ap (long (longBytes (holds k) ++ rest)) e ∙ long-after (longBytes (holds k)) rest (slotBytes * i) ∙ long-slots (suc k) n holds i (omega arith) ∙ ap holds f
 
-pub word-row : (holds : ℕ → ℕ) (slot : ℕ) → 1 ≤ slot → slot ≤ slots → word (rowOf holds) (inRow slot) ≡ holds slot
-word-row holds slot a b =
+pub long-row : (holds : ℕ → ℕ) (slot : ℕ) → 1 ≤ slot → slot ≤ slots → long (rowOf holds) (inRow slot) ≡ holds slot
+long-row holds slot a b =
     let e : 1 + (slot - 1) ≡ slot = omega arith in
-    word-slots 1 slots holds (slot - 1) (omega arith) ∙ ap holds e
+    long-slots 1 slots holds (slot - 1) (omega arith) ∙ ap holds e
 
 -- a score laid in a slot
 abbrev pub with : (ℕ → ℕ) → ℕ → ℕ → ℕ → ℕ
 with holds at score slot = if slot =? at then score else holds slot
 
-laid-slots : (k n : ℕ) (holds : ℕ → ℕ) (i score : ℕ) → i < n → laid (slotsFrom k n holds) (slotBytes * i) (wordBytes score) ≡ slotsFrom k n (with holds (k + i) score)
-unfolding slotsFrom wordBytes
+laid-slots : (k n : ℕ) (holds : ℕ → ℕ) (i score : ℕ) → i < n → laid (slotsFrom k n holds) (slotBytes * i) (longBytes score) ≡ slotsFrom k n (with holds (k + i) score)
+unfolding slotsFrom wordBytes longBytes
 laid-slots k zero holds i score h = absurd (omega arith)
 laid-slots k (suc n) holds zero score h =
     let e : k ≡ k + 0 = omega arith in
-    laid-start (wordBytes (holds k) ++ slotsFrom (suc k) n holds) (wordBytes score)
-    ∙ ap (λ (z : List ℕ). wordBytes score ++ z) (slots-same (suc k) n holds (with holds (k + 0) score) (λ slot a b. sym (simp (ne-eqb slot (k + 0) (λ x. omega arith)) refl)))
-    ∙ ap (λ (v : ℕ). wordBytes v ++ slotsFrom (suc k) n (with holds (k + 0) score)) (sym (simp (eq-eqb k (k + 0) e) refl))
+    laid-start (longBytes (holds k) ++ slotsFrom (suc k) n holds) (longBytes score)
+    ∙ ap (λ (z : List ℕ). longBytes score ++ z) (slots-same (suc k) n holds (with holds (k + 0) score) (λ slot a b. sym (simp (ne-eqb slot (k + 0) (λ x. omega arith)) refl)))
+    ∙ ap (λ (v : ℕ). longBytes v ++ slotsFrom (suc k) n (with holds (k + 0) score)) (sym (simp (eq-eqb k (k + 0) e) refl))
 laid-slots k (suc n) holds (suc i) score h =
     let rest = slotsFrom (suc k) n holds in
-    let e : slotBytes * suc i ≡ length (wordBytes (holds k)) + slotBytes * i = omega (arith, length-word (holds k)) in
+    let e : slotBytes * suc i ≡ length (longBytes (holds k)) + slotBytes * i = omega (arith, length-long (holds k)) in
     let f : suc k + i ≡ k + suc i = omega arith in
-    ap (λ (a : ℕ). laid (wordBytes (holds k) ++ rest) a (wordBytes score)) e
-    ∙ laid-past (wordBytes (holds k)) rest (slotBytes * i) (wordBytes score)
-    ∙ ap (λ (z : List ℕ). wordBytes (holds k) ++ z) (laid-slots (suc k) n holds i score (omega arith) ∙ ap (λ (at : ℕ). slotsFrom (suc k) n (with holds at score)) f)
-    ∙ ap (λ (v : ℕ). wordBytes v ++ slotsFrom (suc k) n (with holds (k + suc i) score)) (sym (simp (ne-eqb k (k + suc i) (λ x. omega arith)) refl))
+    ap (λ (a : ℕ). laid (longBytes (holds k) ++ rest) a (longBytes score)) e
+    ∙ laid-past (longBytes (holds k)) rest (slotBytes * i) (longBytes score)
+    ∙ ap (λ (z : List ℕ). longBytes (holds k) ++ z) (laid-slots (suc k) n holds i score (omega arith) ∙ ap (λ (at : ℕ). slotsFrom (suc k) n (with holds at score)) f)
+    ∙ ap (λ (v : ℕ). longBytes v ++ slotsFrom (suc k) n (with holds (k + suc i) score)) (sym (simp (ne-eqb k (k + suc i) (λ x. omega arith)) refl))
 
 -- a row with every slot missing
 pub missing-row : missingRow ≡ rowOf (λ slot. missing)
-unfolding slotsFrom wordBytes
+unfolding slotsFrom wordBytes longBytes
 missing-row = refl
 
 -- a row by itself is a table of one: cleared, and with a score stored
@@ -101,7 +91,7 @@ row-stored holds slot score a b =
     let e : slotAt 0 slot ≡ slotBytes * (slot - 1) = omega arith in
     let f : 1 + (slot - 1) ≡ slot = omega arith in
     stored-slot (rowOf holds) 0 slot score (there-slot (rowOf holds) 0 slot (omega arith) a b)
-    ∙ ap (λ (p : ℕ). laid (rowOf holds) p (wordBytes score)) e
+    ∙ ap (λ (p : ℕ). laid (rowOf holds) p (longBytes score)) e
     ∙ laid-slots 1 slots holds (slot - 1) score (omega arith)
     ∙ ap (λ (at : ℕ). rowOf (with holds at score)) f
 
@@ -113,7 +103,7 @@ found-row table subject holds slot h a b =
     let l = length-row holds in
     let there = there-slot (withRow table subject row) subject slot (omega (arith, length-put table (rowBytes * subject) row)) a b in
     let w =
-    ap (λ (z : List ℕ). word z (slotAt subject slot)) (put-there table (rowBytes * subject) row (omega arith))
-    ∙ word-in table (rowBytes * subject) row (inRow slot) (omega arith) (omega arith)
-    ∙ word-row holds slot a b in
+    ap (λ (z : List ℕ). long z (slotAt subject slot)) (put-there table (rowBytes * subject) row (omega arith))
+    ∙ long-in table (rowBytes * subject) row (inRow slot) (omega arith) (omega arith)
+    ∙ long-row holds slot a b in
     found-there (withRow table subject row) subject slot there ∙ ap valued w

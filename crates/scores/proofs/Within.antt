@@ -3,19 +3,19 @@ use Prim.Native.Nat.{ℕ, _+_, _*_, _<_, _≤_}
 use native.Mathlib.Omega.{arith}
 use native.Mathlib.Decide.{decLt, ℕ-discrete}
 use mathlib.Core.Path.{_≡_, refl, sym, ap, subst, _∙_}
-use mathlib.Core.Bool.{Bool, true, false, _&&_}
+use mathlib.Core.Bool.{Bool, true, false, _&&_, true≢false}
 use mathlib.Core.List.{List, [], _++_}
-use lib.ListN.{length, getD, length-append, List·getD-append}
-use lib.Seq.{getD-append-add}
+use lib.ListN.{length, length-append}
 use borrow.Author.Tests.{le-ltb}
-use Rattle.paper.specs.Limits.{slots, slotBytes, rowBytes, topScore}
+use Rattle.paper.specs.Limits.{slots, rowBytes, topScore}
 use Rattle.paper.specs.Ranges.{within}
-use Rattle.paper.specs.Bytes.{word}
-use Rattle.scores.specs.Scores.{hasSlot, inRow, slotAt, Found, scaled, absent, tooHigh, valued, found}
+use Rattle.paper.specs.Bytes.{long}
+use Rattle.paper.proofs.Written.{long-before, long-after}
+use Rattle.scores.specs.Scores.{rows, hasSlot, inRow, slotAt, Found, scaled, absent, tooHigh, valued, found}
 use Rattle.scores.specs.Rows.{missingRow, stored}
 use Rattle.scores.specs.Meaning.{NoneOver}
 use Rattle.scores.proofs.Rowed.{slot-there, there-slot, length-missing, stored-none}
-use Rattle.scores.proofs.Filling.{found-there, found-none, missing-word, found-stored, stored-other}
+use Rattle.scores.proofs.Filling.{found-there, found-none, missing-long, found-stored, stored-other}
 
 -- what is missing, or a score, is not over
 pub absent-over : (f : Found) → f ≡ absent → f ≡ tooHigh → ⊥
@@ -24,25 +24,16 @@ absent-over f a b = let z : _≡_ {A = ℕ} 0 1 = cc in omega arith
 pub scaled-over : (f : Found) (v : ℕ) → f ≡ scaled v → f ≡ tooHigh → ⊥
 scaled-over f v a b = let z : _≡_ {A = ℕ} 0 1 = cc in omega arith
 
--- a number in the first of two lists, and in the second
-word-before : (xs ys : List ℕ) (k : ℕ) → k + slotBytes ≤ length xs → word (xs ++ ys) k ≡ word xs k
-unfolding word
-word-before xs ys k h = omega (arith, List·getD-append xs ys 0 k (omega arith), List·getD-append xs ys 0 (k + 1) (omega arith))
-
-word-after : (xs ys : List ℕ) (k : ℕ) → word (xs ++ ys) (length xs + k) ≡ word ys k
-unfolding word
-word-after xs ys k =
-    let e : length xs + k + 1 ≡ length xs + (k + 1) = omega arith in
-    let low = ap (λ (i : ℕ). getD (xs ++ ys) i 0) e ∙ getD-append-add xs ys (k + 1) 0 in
-    omega (arith, getD-append-add xs ys k 0)
-
 -- a table with no row
-pub none-over-empty : NoneOver []
-none-over-empty subject slot = absent-over _ (found-none [] subject slot (ap (λ (b : Bool). b && within 1 slots slot) (le-ltb subject 0 (omega arith))))
+pub found-empty : (subject slot : ℕ) → found [] subject slot ≡ absent
+found-empty subject slot = found-none [] subject slot (ap (λ (b : Bool). b && within 1 slots slot) (le-ltb subject 0 (omega arith)))
 
--- a row more, with every slot missing
-pub none-over-row : (table : List ℕ) (n : ℕ) → length table ≡ rowBytes * n → NoneOver table → NoneOver (table ++ missingRow)
-none-over-row table n l none subject slot = go (hasSlot more subject slot) refl (decLt subject n)
+pub none-over-empty : NoneOver []
+none-over-empty subject slot = absent-over _ (found-empty subject slot)
+
+-- with a row more, every slot missing, the same is found in each slot: those of the row were not there
+pub found-more : (table : List ℕ) (n : ℕ) → length table ≡ rowBytes * n → (subject slot : ℕ) → found (table ++ missingRow) subject slot ≡ found table subject slot
+found-more table n l subject slot = go (hasSlot table subject slot) (hasSlot more subject slot) refl refl
   where
     more : List ℕ
     more = table ++ missingRow
@@ -50,19 +41,28 @@ none-over-row table n l none subject slot = go (hasSlot more subject slot) refl 
     more-rows : length more ≡ rowBytes * n + rowBytes
     more-rows = omega (arith, length-append table missingRow, length-missing)
 
-    go : (b : Bool) → hasSlot more subject slot ≡ b → Dec (subject < n) → found more subject slot ≡ tooHigh → ⊥
-    go false e d = absent-over _ (found-none more subject slot e)
-    go true e (yes p) =
-        let h = slot-there more subject slot e in
-        let there = there-slot table subject slot (omega arith) (h .1) (h .2) in
-        let w = word-before table missingRow (slotAt subject slot) (omega arith) in
-        λ o. none subject slot (found-there table subject slot there ∙ ap valued (sym w) ∙ sym (found-there more subject slot e) ∙ o)
-    go true e (no p) =
-        let h = slot-there more subject slot e in
-        let s : subject ≡ n = omega (arith, more-rows) in
-        let a : slotAt subject slot ≡ length table + inRow slot = omega arith in
-        let w = ap (word more) a ∙ word-after table missingRow (inRow slot) ∙ missing-word (inRow slot) (omega arith) in
-        absent-over _ (found-there more subject slot e ∙ ap valued w)
+    go : (a b : Bool) → hasSlot table subject slot ≡ a → hasSlot more subject slot ≡ b → found more subject slot ≡ found table subject slot
+    go true b e f =
+        let h = slot-there table subject slot e in
+        found-there more subject slot (there-slot more subject slot (omega (arith, more-rows)) (h .1) (h .2))
+        ∙ ap valued (long-before table missingRow (slotAt subject slot) (omega arith))
+        ∙ sym (found-there table subject slot e)
+    go false false e f = found-none more subject slot f ∙ sym (found-none table subject slot e)
+    go false true e f =
+        let h = slot-there more subject slot f in
+        let new : (subject < n) → ⊥ = λ p. true≢false (sym (there-slot table subject slot (omega arith) (h .1) (h .2)) ∙ e) in
+        let s : subject ≡ n = go-new (decLt subject n) new (h .0) in
+        let at : slotAt subject slot ≡ length table + inRow slot = omega arith in
+        found-there more subject slot f
+        ∙ ap valued (ap (long more) at ∙ long-after table missingRow (inRow slot) ∙ missing-long (inRow slot) (omega arith))
+        ∙ sym (found-none table subject slot e)
+      where
+        go-new : Dec (subject < n) → ((subject < n) → ⊥) → subject < rows more → subject ≡ n
+        go-new (yes p) new r = absurd (new p)
+        go-new (no p) new r = omega (arith, more-rows)
+
+pub none-over-row : (table : List ℕ) (n : ℕ) → length table ≡ rowBytes * n → NoneOver table → NoneOver (table ++ missingRow)
+none-over-row table n l none subject slot o = none subject slot (sym (found-more table n l subject slot) ∙ o)
 
 -- a score in a slot
 pub none-over-stored : (table : List ℕ) (subject slot score : ℕ) → score ≤ topScore → NoneOver table → NoneOver (stored table subject slot score)

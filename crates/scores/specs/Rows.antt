@@ -4,14 +4,14 @@ use mathlib.Core.List.{List, [], _++_}
 use lib.ListN.{replicate}
 use Rattle.paper.specs.Limits.{slots, rowBytes, missingByte}
 use Rattle.paper.specs.Words.{if_then_else_}
-use Rattle.paper.specs.Bytes.{wordBytes}
+use Rattle.paper.specs.Bytes.{longBytes}
 use Rattle.paper.specs.Parts.{laid, put}
 use Rattle.scores.specs.Scores.{hasSlot, slotAt}
 
 -- a row by what each slot holds, slot 1 first: n slots from k on, and all of them
 unfoldable pub slotsFrom : ℕ → ℕ → (ℕ → ℕ) → List ℕ
 slotsFrom k zero holds = []
-slotsFrom k (suc n) holds = wordBytes (holds k) ++ slotsFrom (suc k) n holds
+slotsFrom k (suc n) holds = longBytes (holds k) ++ slotsFrom (suc k) n holds
 
 abbrev pub rowOf : (ℕ → ℕ) → List ℕ
 rowOf holds = slotsFrom 1 slots holds
@@ -30,4 +30,4 @@ cleared table subject = withRow table subject missingRow
 
 -- table, subject, slot, score: the table after a score is stored; as it was where there is no such row or slot
 unfoldable pub stored : List ℕ → ℕ → ℕ → ℕ → List ℕ
-stored table subject slot score = if hasSlot table subject slot then laid table (slotAt subject slot) (wordBytes score) else table
+stored table subject slot score = if hasSlot table subject slot then laid table (slotAt subject slot) (longBytes score) else table

@@ -1,4 +1,4 @@
--- The lent score table: a row of 100 slots to a subject, in catalogue order, slot 1 first; scores are in hundredths.
+-- The lent score table: a row of 100 slots to a subject, in catalogue order, slot 1 first; scores are in ten-thousandths.
 use Prim.Native.Nat.{ℕ, _+_, _-_, _*_, _/_}
 use mathlib.Core.Bool.{Bool, _&&_}
 use mathlib.Core.List.{List}
@@ -7,7 +7,7 @@ use Rattle.paper.specs.Limits.{slots, slotBytes, rowBytes, missing, topScore}
 use Rattle.paper.specs.Letters.{letterA, letterB, letterC, letterD, letterE}
 use Rattle.paper.specs.Words.{_<?_, _=?_, if_then_else_}
 use Rattle.paper.specs.Ranges.{within}
-use Rattle.paper.specs.Bytes.{word, records}
+use Rattle.paper.specs.Bytes.{long, records}
 use Rattle.catalogue.specs.Kinds.{isGeneral, isApplied, isVet}
 
 -- the whole rows of a table
@@ -31,7 +31,7 @@ slotAt subject slot = rowBytes * subject + inRow slot
 
 -- what it holds; past the table it is missing
 abbrev pub slotValue : List ℕ → ℕ → ℕ → ℕ
-slotValue table subject slot = if hasSlot table subject slot then word table (slotAt subject slot) else missing
+slotValue table subject slot = if hasSlot table subject slot then long table (slotAt subject slot) else missing
 
 -- what is found in a slot: a score; nothing; or a number over the greatest score
 pub data Found : Type 0 where

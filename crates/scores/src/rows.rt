@@ -39,6 +39,6 @@ pub fn store(table: &mut [u8], subject: usize, raw: Raw, score: Scaled)
     if slots::has_slot(table.len(), subject, raw) {
         let start = ROW_BYTES * subject;
         let at = slots::in_row(raw);
-        bytes::put_word(&mut table[start..start + ROW_BYTES], at, score.0);
+        bytes::put_long(&mut table[start..start + ROW_BYTES], at, score.0);
     }
 }

@@ -1,8 +1,10 @@
 // Results and scores, and the slots of the lent score table.
 ghost use mathlib.Core.Path.{_≡_};
 ghost use Prim.Native.Nat.{_+_, _/_, _≤_};
+ghost use lib.ListN.{length};
 ghost use Rattle.paper.specs.Limits.{slots, slotBytes, rowBytes};
 ghost use Rattle.paper.specs.Ranges.{within};
+ghost use Rattle.paper.specs.Bytes.{long};
 ghost use Rattle.scores.specs.Scores.{slotIn, inRow, valued, found, letterSlot, slotOf};
 ghost use Rattle.scores.specs.Promise.{looked};
 use catalogue::kinds;
@@ -18,8 +20,8 @@ use paper::widening::wide8;
 // A raw result: the slot that is asked for. 1 to 100 have a slot; that of another number is missing.
 pub struct Raw(pub u8);
 
-// A scaled result, in hundredths.
-pub struct Scaled(pub u16);
+// A scaled result, in ten-thousandths.
+pub struct Scaled(pub u32);
 
 // What a slot holds: a score, nothing, or a number over the greatest score.
 pub enum Slot {
@@ -76,8 +78,18 @@ pub(crate) fn in_row(raw: Raw) -> usize
     SLOT_BYTES * (raw.0 as usize - 1)
 }
 
+// The number in a slot of the table, by where it begins.
+fn held(table: &[u8], at: usize) -> u32
+    requires { ⌜ at + slotBytes ≤ length (now table) ⌝ }
+    ensures { λ r. ⌜ r ≡ long (now (table .entry)) at ⌝ }
+{
+    let high = bytes::word_of(table[at], table[at + 1]);
+    let low = bytes::word_of(table[at + 2], table[at + 3]);
+    bytes::long_of(high, low)
+}
+
 // What the number in a slot says.
-fn valued(value: u16) -> Slot
+fn valued(value: u32) -> Slot
     ensures { λ r. ⌜ looked r ≡ valued value ⌝ }
 {
     if value == MISSING {
@@ -94,7 +106,8 @@ pub fn look_up(table: &[u8], subject: usize, raw: Raw) -> Slot
     ensures { λ r. ⌜ looked r ≡ found (now (table .entry)) subject (raw .0) ⌝ }
 {
     if has_slot(table.len(), subject, raw) {
-        return valued(bytes::word_at(table, ROW_BYTES * subject + in_row(raw)));
+        let at = ROW_BYTES * subject + in_row(raw);
+        return valued(held(table, at));
     }
     Slot::Missing
 }

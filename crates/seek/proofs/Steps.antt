@@ -390,7 +390,7 @@ module _ {test : Test} {clash score : ℕ → ℕ} {held : ℕ} where
 
 -- a sum and a score more fit
 pub sum-fits : {test : Test} {clash : ℕ → ℕ} {held m : ℕ} {scores : List ℕ} {best : Lead} {at set sum : ℕ} → Sought (test .kept) scores held
-    → Stands test clash (valueAt scores) held m best at set sum → (i : ℕ) → sum + valueAt scores i ≤ 200000
+    → Stands test clash (valueAt scores) held m best at set sum → (i : ℕ) → sum + valueAt scores i ≤ mostResults * topScore + topScore
 sum-fits {scores = scores} {set = set} w s i = omega (arith, comes-most (valueAt scores) topScore (w .most) set, w .most i, s .worth)
 
 -- ---- less is left as results are passed over or join

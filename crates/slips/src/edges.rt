@@ -1,7 +1,9 @@
-// Spans of four and five years differ, whichever years they are; English C and D differ; score 10000 and 10001 differ.
+// Spans of four and five years differ, whichever years they are; English C and D differ; score 1000000 and 1000001 differ; so do sums that end in 49 and
+// in 50, and the set is that of the greatest unrounded sum.
 use crate::pupils;
 use crate::pupils::Results;
 use crate::pupils::TABLE;
+use paper::limits::SCORE_PARTS;
 use paper::limits::TOP_SCORE;
 use scores::rows;
 use scores::slots::Raw;
@@ -63,9 +65,17 @@ fn spans(table: &[u8; TABLE]) {
     );
 }
 
-// Geography 100 scores more than 100.00.
-fn raise(table: &mut [u8; TABLE]) {
-    rows::store(table, 7, Raw(100), Scaled(TOP_SCORE + 1));
+// A number in Geography scores this.
+fn set(table: &mut [u8; TABLE], number: u8, score: u32) {
+    rows::store(table, 7, Raw(number), Scaled(score));
+}
+
+// Geography 50 scores a little more than the others' 50.00: by rounded sums the first five would be chosen.
+fn decimals(table: &mut [u8; TABLE]) {
+    set(table, 50, 50 * SCORE_PARTS + 49);
+    pupils::best(b"a sum of 250.0049: ", table, six(b'C', 50, 2021));
+    set(table, 50, 50 * SCORE_PARTS + 50);
+    pupils::best(b"a sum of 250.0050: ", table, six(b'C', 50, 2021));
 }
 
 pub(crate) fn run() {
@@ -73,7 +83,8 @@ pub(crate) fn run() {
     spans(&table);
     pupils::best(b"English C: ", &table, six(b'C', 50, 2021));
     pupils::best(b"English D: ", &table, six(b'D', 50, 2021));
-    pupils::best(b"score 10000: ", &table, six(b'C', 100, 2021));
-    raise(&mut table);
-    pupils::best(b"score 10001: ", &table, six(b'C', 100, 2021));
+    pupils::best(b"score 1000000: ", &table, six(b'C', 100, 2021));
+    set(&mut table, 100, TOP_SCORE + 1);
+    pupils::best(b"score 1000001: ", &table, six(b'C', 100, 2021));
+    decimals(&mut table);
 }

@@ -4,6 +4,7 @@ use bestset::Answer;
 use paper::limits::ENTRY_BYTES;
 use paper::limits::RESULT_BYTES;
 use paper::limits::ROW_BYTES;
+use paper::limits::SCORE_PARTS;
 use paper::limits::SLOTS;
 use scores::rows;
 use scores::slots::Raw;
@@ -34,7 +35,7 @@ const CATALOGUE: usize = SUBJECTS * ENTRY_BYTES;
 pub(crate) const TABLE: usize = SUBJECTS * ROW_BYTES;
 
 // The last slot of a row.
-const LAST_SLOT: u16 = SLOTS as u16;
+const LAST_SLOT: u32 = SLOTS as u32;
 
 // The bytes of six results, and of those before the last.
 const RESULTS: usize = 6 * RESULT_BYTES;
@@ -66,9 +67,9 @@ fn catalogue() -> [u8; CATALOGUE] {
 
 // Slot j of a General subject scores j.00.
 fn general(table: &mut [u8], subject: usize) {
-    let mut slot = 1u16;
+    let mut slot = 1u32;
     while slot <= LAST_SLOT {
-        rows::store(table, subject, Raw(slot as u8), Scaled(100 * slot));
+        rows::store(table, subject, Raw(slot as u8), Scaled(SCORE_PARTS * slot));
         slot += 1;
     }
 }
@@ -80,9 +81,9 @@ pub(crate) fn scores() -> [u8; TABLE] {
     general(&mut table, 1);
     general(&mut table, 2);
     general(&mut table, 3);
-    rows::store(&mut table, 4, Raw(90), Scaled(9500));
+    rows::store(&mut table, 4, Raw(90), Scaled(95 * SCORE_PARTS));
     general(&mut table, 5);
-    rows::store(&mut table, 6, Raw(70), Scaled(6000));
+    rows::store(&mut table, 6, Raw(70), Scaled(60 * SCORE_PARTS));
     general(&mut table, 7);
     table
 }

@@ -4,14 +4,15 @@ use mathlib.Core.Path.{_≡_}
 use mathlib.Core.List.{List, [], _∷_, map}
 use lib.ListN.{length, getD}
 use Rattle.paper.specs.Limits.{bandCount, bandStep}
-use Rattle.paper.specs.Rulings.{Outcome, accepted}
+use Rattle.paper.specs.Rulings.{Outcome, accepted, valuesOr}
 use Rattle.results.specs.Results.{Student}
 use Rattle.bestset.specs.Promise.{Promise as BestPromise, said as saidBest, Values as Best}
 use Rattle.bestset.specs.declared.Answer.{Answer as BestAnswer}
 use Rattle.curve.specs.Promise.{Promise as CurvePromise, said as saidCurve, Values as Population}
 use Rattle.curve.specs.declared.Answer.{Answer as CurveAnswer}
 use Rattle.curve.specs.Examples.{aged17}
-use Rattle.bands.specs.Promise.{said as saidBands}
+use Rattle.bands.specs.Promise.{said as saidBands, Lent, TogetherPromise}
+use Rattle.bands.specs.Given.{LentFor}
 use Rattle.bands.specs.declared.Answer.{Answer as BandsAnswer}
 use Rattle.worked.specs.Called.{Rated, Placed}
 
@@ -40,10 +41,22 @@ atRate r = aged17 10000 r
 abbrev pub atarOf : ℕ → ℕ
 atarOf k = bandStep * k
 
+-- a student's aggregate, 0 where the student is refused
+abbrev pub aggregateIn : BestAnswer → ℕ
+aggregateIn r = valuesOr (record { aggregate = 0; set = 0 }) (saidBest r) .aggregate
+
+-- an answer to each student, by a score table, as it is promised
+abbrev pub Answers : List Student → List ℕ → List BestAnswer → Type 0
+Answers [] table [] = Unit {0}
+Answers [] table (r ∷ rs) = ⊥
+Answers (s ∷ students) table [] = ⊥
+Answers (s ∷ students) table (r ∷ rs) = BestPromise s table r × Answers students table rs
+
 infix 68 best-set_by_is_
 infix 68 figures_give_
 infix 68 rate_band_has_
 infix 68 aggregates_by_of_get_leaving_
+infix 68 cohort_by_and_of_have_rank_get_leaving_
 pub data Example : Type 0 where
   -- the best set of a student, by a score table: the aggregate and the set, or the refusal
   best-set_by_is_ : Student → List ℕ → Outcome Best → Example
@@ -53,6 +66,9 @@ pub data Example : Type 0 where
   rate_band_has_ : ℕ → ℕ → ℕ → Example
   -- aggregates, by a participation table of Y, get these ATARs, in hundredths, leaving the remainder
   aggregates_by_of_get_leaving_ : List ℕ → List ℕ → ℕ → List ℕ → ℕ → Example
+  -- a cohort by a score table and, in one call with the ranks, a participation table of Y: its students have these aggregates, rank so, and get these ATARs,
+  -- leaving the remainder
+  cohort_by_and_of_have_rank_get_leaving_ : List Student → List ℕ → List ℕ → ℕ → List ℕ → List ℕ → List ℕ → ℕ → Example
 
 -- whatever meets the promise answers so
 abbrev pub Holds : Example → Type 0
@@ -63,6 +79,10 @@ Holds (rate r band k has v) =
     → (saidCurve a ≡ counted 10000 r) × (getD after k 0 ≡ v)
 Holds (aggregates xs by table of Y get atars leaving n) =
     (r : BandsAnswer) (bands : List ℕ) → Placed xs table Y r bands → (saidBands r ≡ accepted n) × (map atarOf bands ≡ atars)
+Holds (cohort ss by scores and table of Y have xs rank ranks get atars leaving n) =
+    (rs : List BestAnswer) → Answers ss scores rs
+    → (r : BandsAnswer) (before after : Lent) → LentFor (length ss) before → TogetherPromise (map aggregateIn rs) table Y before r after
+    → (map aggregateIn rs ≡ xs) × (saidBands r ≡ accepted n) × (after .ranks ≡ ranks) × (map atarOf (after .bands) ≡ atars)
 
 -- each example of a list
 abbrev pub All : List Example → Type 0

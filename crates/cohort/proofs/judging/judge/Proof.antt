@@ -5,7 +5,7 @@ use mathlib.Core.List.{List}
 use lib.ListN.{length, take, drop}
 use Rattle.paper.proofs.Ruled.{Unbroken}
 use Rattle.paper.proofs.Screens.{screened-kept}
-use Rattle.paper.specs.Limits.{mostStudents, mostResults, tableBytes}
+use Rattle.paper.specs.Limits.{mostStudents, mostResults}
 use Rattle.paper.specs.Rulings.{Rule, judged}
 use Rattle.paper.specs.Screening.{ruled}
 use Rattle.fields.specs.Fields.{valueAt}
@@ -13,30 +13,32 @@ use Rattle.fields.specs.Order.{headRules}
 use Rattle.fields.specs.Inner.{Countable}
 use Rattle.fields.proofs.Fitting.{countable}
 use Rattle.fields.proofs.Headed.{cut-past, There, there}
-use Rattle.cohort.specs.Held.{Held, nothing}
+use Rattle.cohort.specs.Held.{Held, nothing, idsOf}
 use Rattle.cohort.specs.Taking.{taken}
 use Rattle.cohort.specs.Judging.{valueRules}
-use Rattle.cohort.specs.Inner.{fieldOf, Noted}
+use Rattle.cohort.specs.Inner.{fieldOf, Marked, Begins}
 use Rattle.cohort.proofs.Fairly.{few-subjects, few-students}
 use Rattle.cohort.proofs.Walk.{says-refused, Reached, reached-start, short, unordered, ends, value-is, by-value, stopped, gone, end-judged}
-use Rattle.cohort.proofs.Turns.{seen, noted-long, noted-start, noted-taken}
+use Rattle.cohort.proofs.Turns.{seen, noted-long, slotted, marked-taken, ids-taken, begins-start}
+use Rattle.cohort.proofs.Marking.{marked-start}
 use borrow.Author.Needs.{needs}
 use Rattle.cohort.proofs.judging.judge.Statement.{statement}
 use Rattle.cohort.proofs.judging.judge.Tie as tie
+use Rattle.cohort.proofs.judging.mark.Reads as mark-reads
+use Rattle.cohort.proofs.values.note_id.Reads as note-id-reads
 use Rattle.cohort.proofs.judging.judge_values.Reads as judge-values-reads
-use Rattle.cohort.proofs.values.note.Reads as note-reads
 use Rattle.fields.proofs.heads.head_at.Reads as head-at-reads
 use Rattle.fields.proofs.order.further.Reads as further-reads
 use Rattle.fields.proofs.order.judge.Reads as judge-reads
 use Rattle.fields.proofs.order.judge_end.Reads as judge-end-reads
 use Rattle.fields.proofs.order.start.Reads as start-reads
 
--- the fields before the offset are read, and the table and the ids note what they hold
+-- the fields before the offset are read, the marks are the slots that have their score, and the ids note the students
 abbrev Inv-loop : tie.InvT-loop
-Inv-loop file table₀ ids₀ far₀ at₀ table ids far at = (held : Held) × Reached file far held at × Noted held table₀ ids₀ table ids
+Inv-loop file marks₀ ids₀ far₀ at₀ marks ids far at = (held : Held) × Reached file far held at × Marked (held .table) marks × Begins mostStudents (idsOf (held .students)) ids₀ ids
 
 abbrev μ-loop : tie.MeasureT-loop
-μ-loop file table₀ ids₀ far₀ at₀ table ids far at = length file - at
+μ-loop file marks₀ ids₀ far₀ at₀ marks ids far at = length file - at
 
 -- a whole field is at hand: its turn of the loop, its tag and its length
 module _ (w : tie.After-known-told Inv-loop μ-loop) where
@@ -90,9 +92,9 @@ module _ (k : tie.After-enum-told2 Inv-loop μ-loop) where
   part : value ≡ valueAt (file here) (at here)
   part = value-is (reached here) (inside here) (whole here)
 
-  -- the lengths of the table and of the ids
-  long-enough : (length (round here .loop .table) ≡ tableBytes) × (length (round here .loop .ids) ≡ mostStudents)
-  long-enough = noted-long (round here .loop .far) (held here) (reached here .fair) (round here .loop .inv .2)
+  -- the length of the ids
+  long-enough : length (round here .loop .ids) ≡ mostStudents
+  long-enough = noted-long (round here .loop .far) (held here) (reached here .fair) (round here .loop .inv .3)
 
   -- its rules by its value
   abbrev values : List Rule
@@ -104,13 +106,21 @@ module _ (d : tie.After-judge-values Inv-loop μ-loop) where
   ordered = d .before .before .before .before
 
   said : ruled (d .judge-values .result) ≡ judged (values ordered) tt
-  said = let w = here ordered in d .judge-values .ensures (held w) (seen (round w .loop .far) (held w) (reached w .fair) (round w .loop .inv .2))
+  said = let w = here ordered in d .judge-values .ensures (held w) (seen (round w .loop .far) (held w) (reached w .fair) (round w .loop .inv .2) (round w .loop .inv .3))
+
+-- and break no rule
+module _ (t : tie.After-enum-told3 Inv-loop μ-loop) where
+  abbrev valued : tie.After-judge-values Inv-loop μ-loop
+  valued = t .before .before
+
+  kept : Unbroken (values (ordered valued))
+  kept = screened-kept (values (ordered valued)) (said valued) (t .enum-told3 .given .1)
 
 start-requires : tie.Need-start-requires Inv-loop μ-loop
 start-requires c κs = search needs
 
 loop-holds : tie.Need-loop-holds Inv-loop μ-loop
-loop-holds c = rw (c .start .ensures) (nothing, reached-start _, noted-start _ _ (search needs) (search needs))
+loop-holds c = rw (c .start .ensures) (nothing, reached-start _, marked-start, begins-start _ _ (search needs))
 
 head-at-requires : tie.Need-head-at-requires Inv-loop μ-loop
 head-at-requires c κs = search needs
@@ -158,16 +168,13 @@ part-value-end : tie.Need-part-value-end Inv-loop μ-loop
 part-value-end c = let f = fits c in search needs
 
 slice-aggregate-judge-values : tie.Need-slice-aggregate-judge-values Inv-loop μ-loop
-slice-aggregate-judge-values c = let l = long-enough (c .before .before) .0 in search needs
-
-slice-aggregate-judge-values-2 : tie.Need-slice-aggregate-judge-values-2 Inv-loop μ-loop
-slice-aggregate-judge-values-2 c = let l = long-enough (c .before .before .before) .1 in search needs
+slice-aggregate-judge-values c = let l = long-enough (c .before .before .before) in search needs
 
 judge-values-requires : tie.Need-judge-values-requires Inv-loop μ-loop
 judge-values-requires c κs =
     let k = c .before .before .before in
     let r = reached (here k) in
-    (omega (arith, few-subjects (r .fair), long-enough k .0), omega (arith, few-students (r .fair), long-enough k .1))
+    (few-subjects (r .fair), omega (arith, few-students (r .fair), long-enough k))
 
 enum-known-x-2 : tie.Need-enum-known-x-2 Inv-loop μ-loop
 enum-known-x-2 c = search needs
@@ -183,25 +190,34 @@ returns-3 c =
 enum-told-3 : tie.Need-enum-told-3 Inv-loop μ-loop
 enum-told-3 c = search needs
 
-note-requires : tie.Need-note-requires Inv-loop μ-loop
-note-requires c κs = counted (ordered (c .before .before .before .before))
+mark-requires : tie.Need-mark-requires Inv-loop μ-loop
+mark-requires c κs =
+    let t = c .before in
+    let k = ordered (valued t) in
+    let w = here k in
+    slotted (round w .loop .far) (held w) (reached w .fair) (value k) (at w) (tag w) (kept t)
+
+note-id-requires : tie.Need-note-id-requires Inv-loop μ-loop
+note-id-requires c κs = counted (ordered (valued (c .before .before .before)))
 
 further-requires : tie.Need-further-requires Inv-loop μ-loop
-further-requires c κs = counted (ordered (c .before .before .before .before .before))
+further-requires c κs = counted (ordered (valued (c .before .before .before .before)))
 
 loop-less : tie.Need-loop-less Inv-loop μ-loop
-loop-less c = let f = fits (ordered (c .before .before .before .before .before .before)) in search needs
+loop-less c = let f = fits (ordered (valued (c .before .before .before .before .before))) in search needs
 
 loop-again : tie.Need-loop-again Inv-loop μ-loop
 loop-again c =
-    let d = c .before .before .before .before .before .before in
-    let k = ordered d in
+    let t = c .before .before .before .before .before in
+    let k = ordered (valued t) in
     let w = here k in
     let l = round w .loop in
-    let kept = screened-kept (values k) (said d) (c .before .before .before .before .enum-told3 .given .1) in
-    let head = by-value (reached w) (inside w) (whole w) (part k) (unbroken k) in
-    let e = c .before .note .ensures in
-    (taken (held w) (fieldOf (tag w) (value k)), gone (reached w) (inside w) (whole w) (part k) (unbroken k) kept (c .further .result) (c .further .ensures), noted-taken (l .far) (held w) (reached w .fair) (value k) (at w) (l .inv .2) (tag w) head kept (e .0) (e .1))
+    let head = by-value (reached w) (inside w) (whole w) (part k) (unbroken k) in (
+      taken (held w) (fieldOf (tag w) (value k)),
+      gone (reached w) (inside w) (whole w) (part k) (unbroken k) (kept t) (c .further .result) (c .further .ensures),
+      marked-taken (l .far) (held w) (reached w .fair) (value k) (at w) (l .inv .2) (tag w) head (kept t) (c .before .before .before .mark .ensures),
+      ids-taken (l .far) (held w) (reached w .fair) (value k) (at w) (l .inv .3) (tag w) head (c .before .note-id .ensures),
+    )
 
 judge-end-requires : tie.Need-judge-end-requires Inv-loop μ-loop
 judge-end-requires c κs = search needs
@@ -231,12 +247,12 @@ judge-spec =
     part-value-start
     part-value-end
     slice-aggregate-judge-values
-    slice-aggregate-judge-values-2
     judge-values-requires
     enum-known-x-2
     returns-3
     enum-told-3
-    note-requires
+    mark-requires
+    note-id-requires
     further-requires
     loop-less
     loop-again

@@ -1,12 +1,15 @@
 use Rattle.cohort.specs.Judging.{given}
+use Rattle.cohort.specs.Inner.{Marks}
+use Rattle.fields.proofs.Fitting.{range-kept}
 use Rattle.scores.specs.Scores.{found}
-use Rattle.paper.specs.Bytes.{byte, word}
+use Rattle.paper.specs.Bytes.{byte, word, long}
 use Rattle.paper.specs.Ranges.{within}
 use Rattle.paper.specs.Limits.{slots, topScore}
 use borrow.Author.Tests.{lt-ltb, le-ltb, le-leb, lt-leb}
 use lib.Dec.{leb, ltb}
 use mathlib.Core.List.{List}
-use Prim.Native.Nat.{ℕ}
+use Prim.Native.Nat.{ℕ, _≤_}
+use native.Mathlib.Omega.{arith}
 use mathlib.Core.Bool.{false, not}
 use mathlib.Core.Path.{_≡_, refl, sym, ap, _∙_}
 use borrow.Author.Needs.{needs}
@@ -14,6 +17,7 @@ use Rattle.cohort.proofs.judging.judge_score.Statement.{statement}
 use Rattle.cohort.proofs.judging.judge_score.Tie as tie
 use Rattle.cohort.proofs.judging.is_given.Reads as is-given-reads
 use Rattle.paper.proofs.bytes.byte_at.Reads as byte-at-reads
+use Rattle.paper.proofs.bytes.long_at.Reads as long-at-reads
 use Rattle.paper.proofs.bytes.word_at.Reads as word-at-reads
 use Rattle.paper.proofs.ranges.within.Reads as within-reads
 use Rattle.paper.proofs.widening.wide8.Reads as wide8-reads
@@ -21,7 +25,7 @@ use Rattle.paper.proofs.widening.wide8.Reads as wide8-reads
 -- the subject is in the catalogue
 module _ (c : tie.Else1) where
   abbrev start : tie.Start
-  start = c .before .before .before .before
+  start = c .before .before .before
 
   abbrev value : List ℕ
   value = start .args .value .now
@@ -43,15 +47,18 @@ module _ (c : tie.Else2) where
   ranged : not (within 1 slots (byte (value known-at) 2)) ≡ false
   ranged = rw (← slot-is) (ap not (sym (rw (c .before .before .wide8 .ensures .0) at (c .before .within .ensures))) ∙ c .if2 .left)
 
+  in-range : (1 ≤ c .before .before .before .byte-at .result) × (c .before .before .before .byte-at .result ≤ slots)
+  in-range = rw (slot-is) (range-kept 1 slots (byte (value known-at) 2) ranged)
+
 -- the score is not over the greatest
 module _ (c : tie.Else3) where
   abbrev ranged-at : tie.Else2
   ranged-at = c .before .before
 
-  score-is : c .before .word-at2 .result ≡ word (value (known-at ranged-at)) 3
-  score-is = c .before .word-at2 .ensures
+  score-is : c .before .long-at .result ≡ long (value (known-at ranged-at)) 3
+  score-is = c .before .long-at .ensures
 
-  low : ltb topScore (word (value (known-at ranged-at)) 3) ≡ false
+  low : ltb topScore (long (value (known-at ranged-at)) 3) ≡ false
   low = rw (← score-is) (le-ltb _ _ (c .if3 .left))
 
 -- the slot has been looked up
@@ -62,8 +69,10 @@ module _ (c : tie.After-is-given) where
   abbrev first : tie.Else1
   first = known-at (ranged-at low-at)
 
-  looked : c .is-given .result ≡ given (found (start first .args .rows .now) (word (value first) 0) (byte (value first) 2))
-  looked = rw (← (subject-is first), ← (slot-is (ranged-at low-at))) (c .is-given .ensures)
+  looked : (table : List ℕ) → Marks table (start first .args .marks .now) → c .is-given .result ≡ given (found table (word (value first) 0) (byte (value first) 2))
+  looked table marks =
+      let in-row = in-range (ranged-at low-at) in
+      rw (← (subject-is first), ← (slot-is (ranged-at low-at))) (c .is-given .ensures ∙ marks _ _ (in-row .0) (in-row .1))
 
 word-at-requires : tie.Need-word-at-requires
 word-at-requires c κs = search needs
@@ -72,7 +81,7 @@ cast-subject : tie.Need-cast-subject
 cast-subject c = search needs
 
 returns : tie.Need-returns
-returns c = simp (← (c .before .word-at .ensures), le-leb _ _ (c .if1 .taken)) refl
+returns c = λ table marks. simp (← (c .before .word-at .ensures), le-leb _ _ (c .if1 .taken)) refl
 
 byte-at-requires : tie.Need-byte-at-requires
 byte-at-requires c κs = search needs
@@ -84,26 +93,28 @@ within-requires : tie.Need-within-requires
 within-requires c κs = search needs
 
 returns-2 : tie.Need-returns-2
-returns-2 c = simp (known (c .before .before .before .before), ← (c .before .before .before .byte-at .ensures), ← (rw (c .before .before .wide8 .ensures .0) at (c .before .within .ensures)), c .if2 .taken) refl
+returns-2 c = λ table marks. simp (known (c .before .before .before .before), ← (c .before .before .before .byte-at .ensures), ← (rw (c .before .before .wide8 .ensures .0) at (c .before .within .ensures)), c .if2 .taken) refl
 
-word-at-requires-2 : tie.Need-word-at-requires-2
-word-at-requires-2 c κs = search needs
+long-at-requires : tie.Need-long-at-requires
+long-at-requires c κs = search needs
 
 returns-3 : tie.Need-returns-3
-returns-3 c = let r = c .before .before in simp (known (known-at r), ranged r, ← (c .before .word-at2 .ensures), lt-ltb _ _ (c .if3 .taken)) refl
+returns-3 c = let r = c .before .before in λ table marks. simp (known (known-at r), ranged r, ← (c .before .long-at .ensures), lt-ltb _ _ (c .if3 .taken)) refl
 
 is-given-requires : tie.Need-is-given-requires
-is-given-requires c κs = search needs
+is-given-requires c κs =
+    let r = ranged-at c in
+    record { few = omega (arith, known-at r .if1 .left, start (known-at r) .pre); from = in-range r .0; to = in-range r .1 }
 
 returns-4 : tie.Need-returns-4
 returns-4 c =
     let g = c .before in
-    simp (known (first g), ranged (ranged-at (low-at g)), low (low-at g), ← (looked g), c .if4 .taken) refl
+    λ table marks. simp (known (first g), ranged (ranged-at (low-at g)), low (low-at g), ← (looked g table marks), c .if4 .taken) refl
 
 returns-5 : tie.Need-returns-5
 returns-5 c =
     let g = c .before in
-    simp (known (first g), ranged (ranged-at (low-at g)), low (low-at g), ← (looked g), c .if4 .left) refl
+    λ table marks. simp (known (first g), ranged (ranged-at (low-at g)), low (low-at g), ← (looked g table marks), c .if4 .left) refl
 
 pub judge-score-spec : {M : Type 1} → statement M
 judge-score-spec =
@@ -116,7 +127,7 @@ judge-score-spec =
     wide8-requires
     within-requires
     returns-2
-    word-at-requires-2
+    long-at-requires
     returns-3
     is-given-requires
     returns-4

@@ -4,8 +4,7 @@ use Rattle.cohort.specs.Held.{Held}
 use Rattle.paper.specs.declared.screening.Verdict.{Verdict}
 use Rattle.paper.specs.Screening.{ruled}
 use Rattle.paper.specs.Rulings.{judged}
-use Rattle.paper.specs.Limits.{rowBytes}
-use Prim.Native.Nat.{ℕ, _*_}
+use Prim.Native.Nat.{ℕ}
 use borrow.Author.Tests.{ne-eqb}
 use lib.Seq.{length-take-le}
 use mathlib.Core.Path.{_≡_, refl, sym, subst, _∙_}
@@ -24,17 +23,11 @@ module _ (s : tie.Start) (held : Held) where
       → ruled r ≡ judged (valueRules held (fieldOf (s .args .tag) (s .args .value .now)) (s .args .place)) tt
   at-tag r e h = subst (λ (t : ℕ). ruled r ≡ judged (valueRules held (fieldOf t (s .args .value .now)) (s .args .place)) tt) (sym e) h
 
-mul-end : tie.Need-mul-end
-mul-end c = search needs
-
 judge-year-requires : tie.Need-judge-year-requires
 judge-year-requires c κs = search needs
 
 judge-subject-requires : tie.Need-judge-subject-requires
 judge-subject-requires c κs = search needs
-
-slice-aggregate-judge-score : tie.Need-slice-aggregate-judge-score
-slice-aggregate-judge-score c = sym (length-take-le (c .before .before .before .before .before .before .args .far .subjects * rowBytes) (c .before .before .before .before .before .before .args .table .now) (c .before .before .before .before .before .before .pre .0))
 
 judge-score-requires : tie.Need-judge-score-requires
 judge-score-requires c κs = search needs
@@ -43,25 +36,25 @@ judge-figures-requires : tie.Need-judge-figures-requires
 judge-figures-requires c κs = search needs
 
 slice-aggregate-judge-student : tie.Need-slice-aggregate-judge-student
-slice-aggregate-judge-student c = sym (length-take-le (c .before .before .before .before .before .before .args .far .students) (c .before .before .before .before .before .before .args .ids .now) (c .before .before .before .before .before .before .pre .1))
+slice-aggregate-judge-student c = sym (length-take-le (c .before .before .before .before .args .far .students) (c .before .before .before .before .args .ids .now) (c .before .before .before .before .pre .1))
 
 judge-student-requires : tie.Need-judge-student-requires
 judge-student-requires c κs = search needs
 
 returns : tie.Need-returns
-returns c = λ held seen. at-tag (c .before .before .before .before .before .before) held (c .judge-year .result) (c .before .match .keys1) (c .judge-year .ensures)
+returns c = λ held seen. at-tag (c .before .before .before .before) held (c .judge-year .result) (c .before .match .keys1) (c .judge-year .ensures)
 
 returns-2 : tie.Need-returns-2
-returns-2 c = λ held seen. at-tag (c .before .before .before .before .before .before) held (c .judge-subject .result) (c .before .match .keys2) (c .judge-subject .ensures)
+returns-2 c = λ held seen. at-tag (c .before .before .before .before) held (c .judge-subject .result) (c .before .match .keys2) (c .judge-subject .ensures)
 
 returns-3 : tie.Need-returns-3
-returns-3 c = λ held seen. at-tag (c .before .before .before .before .before .before .before) held (c .judge-score .result) (c .before .before .match .keys3) (c .judge-score .ensures ∙ λ i. judged (scoreRules (seen .number i) (seen .rows i) (c .before .before .before .before .before .before .before .args .value .now) (c .before .before .before .before .before .before .before .args .place)) tt)
+returns-3 c = λ held seen. at-tag (c .before .before .before .before) held (c .judge-score .result) (c .before .match .keys3) (c .judge-score .ensures (held .table) (seen .scores) ∙ λ i. judged (scoreRules (seen .number i) (held .table) (c .before .before .before .before .args .value .now) (c .before .before .before .before .args .place)) tt)
 
 returns-4 : tie.Need-returns-4
-returns-4 c = λ held seen. at-tag (c .before .before .before .before .before .before) held (c .judge-figures .result) (c .before .match .keys4) (c .judge-figures .ensures)
+returns-4 c = λ held seen. at-tag (c .before .before .before .before) held (c .judge-figures .result) (c .before .match .keys4) (c .judge-figures .ensures)
 
 returns-5 : tie.Need-returns-5
-returns-5 c = λ held seen. at-tag (c .before .before .before .before .before .before .before) held (c .judge-student .result) (c .before .before .match .keys5) (c .judge-student .ensures ∙ λ i. judged (studentRules (seen .students i) (c .before .before .before .before .before .before .before .args .value .now) (c .before .before .before .before .before .before .before .args .place)) tt)
+returns-5 c = λ held seen. at-tag (c .before .before .before .before .before) held (c .judge-student .result) (c .before .before .match .keys5) (c .judge-student .ensures ∙ λ i. judged (studentRules (seen .students i) (c .before .before .before .before .before .args .value .now) (c .before .before .before .before .before .args .place)) tt)
 
 returns-6 : tie.Need-returns-6
 returns-6 c =
@@ -72,10 +65,8 @@ pub judge-values-spec : {M : Type 1} → statement M
 judge-values-spec =
     tie.close
     (tie.spec
-    mul-end
     judge-year-requires
     judge-subject-requires
-    slice-aggregate-judge-score
     judge-score-requires
     judge-figures-requires
     slice-aggregate-judge-student

@@ -4,32 +4,34 @@ use mathlib.Core.Path.{_≡_, sym, _∙_}
 use mathlib.Core.List.{List}
 use lib.ListN.{length, take, drop}
 use Rattle.paper.proofs.Ruled.{Unbroken}
-use Rattle.paper.specs.Limits.{mostResults}
+use Rattle.paper.specs.Limits.{mostStudents, mostResults, tableBytes}
 use Rattle.fields.specs.Fields.{valueAt}
 use Rattle.fields.specs.Order.{headRules}
 use Rattle.fields.specs.Inner.{Countable}
 use Rattle.fields.proofs.Fitting.{countable}
 use Rattle.fields.proofs.Headed.{cut-past, There, there}
-use Rattle.cohort.specs.Held.{Held, nothing}
+use Rattle.cohort.specs.Held.{Held, nothing, idsOf}
 use Rattle.cohort.specs.Taking.{taken}
 use Rattle.cohort.specs.Judging.{valueRules}
-use Rattle.cohort.specs.Inner.{fieldOf, Noted, Shows}
+use Rattle.cohort.specs.Inner.{fieldOf, Begins, Shows}
 use Rattle.cohort.specs.InnerValues.{Rest, rest}
 use Rattle.cohort.proofs.Walk.{not-refused, Reached, reached-start, short, ends, value-is, by-value, field-kept, gone, end-kept}
-use Rattle.cohort.proofs.Turns.{noted-start, noted-taken, shows-start, shows-taken, room}
+use Rattle.cohort.proofs.Turns.{begins-start, table-taken, ids-taken, shows-start, shows-taken, room}
 use borrow.Author.Needs.{needs}
 use Rattle.cohort.proofs.taking.take.Statement.{statement}
 use Rattle.cohort.proofs.taking.take.Tie as tie
+use Rattle.cohort.proofs.taking.take_scores.Reads as take-scores-reads
+use Rattle.cohort.proofs.values.note_id.Reads as note-id-reads
 use Rattle.cohort.proofs.steps.start.Reads as start-reads
 use Rattle.cohort.proofs.taking.take_field.Reads as take-field-reads
-use Rattle.cohort.proofs.values.note.Reads as note-reads
 use Rattle.fields.proofs.heads.head_at.Reads as head-at-reads
 use Rattle.fields.proofs.order.further.Reads as further-reads
 
--- the fields before the offset are read; the table and the ids note what they hold, and the numbers and the other buffers show it
+-- the fields before the offset are read; the table and the ids begin with what they hold, and the numbers and the other buffers show it
 abbrev Inv-loop : tie.InvT-loop
 Inv-loop file catalogue₀ table₀ figures₀ ids₀ counts₀ results₀ so₀ at₀ catalogue table figures ids counts results so at =
-    (held : Held) × Reached file (so .far) held at × Noted held table₀ ids₀ table ids × Shows held (rest catalogue₀ figures₀ counts₀ results₀) so (rest catalogue figures counts results)
+    (held : Held) × Reached file (so .far) held at × Begins tableBytes (held .table) table₀ table × Begins mostStudents (idsOf (held .students)) ids₀ ids
+    × Shows held (rest catalogue₀ figures₀ counts₀ results₀) so (rest catalogue figures counts results)
 
 abbrev μ-loop : tie.MeasureT-loop
 μ-loop file catalogue₀ table₀ figures₀ ids₀ counts₀ results₀ so₀ at₀ catalogue table figures ids counts results so at = length file - at
@@ -96,7 +98,7 @@ loop-holds : tie.Need-loop-holds Inv-loop μ-loop
 loop-holds c =
     let a = c .before .before .args in
     let p = c .before .before .pre in
-    rw (c .start .ensures) (nothing, reached-start _, noted-start _ _ (p .table-long) (p .ids-long), shows-start (rest (a .catalogue .now) (a .figures .now) (a .counts .now) (a .results .now)) (p .figures-long) (p .counts-long))
+    rw (c .start .ensures) (nothing, reached-start _, begins-start _ _ (p .table-long), begins-start _ _ (p .ids-long), shows-start (rest (a .catalogue .now) (a .figures .now) (a .counts .now) (a .results .now)) (p .figures-long) (p .counts-long))
 
 head-at-requires : tie.Need-head-at-requires Inv-loop μ-loop
 head-at-requires c κs = search needs
@@ -129,32 +131,35 @@ part-value-start c = let w = c .before in let f = ends (reached w) (inside w) (w
 part-value-end : tie.Need-part-value-end Inv-loop μ-loop
 part-value-end c = let w = c .before in let f = ends (reached w) (inside w) (whole w) in search needs
 
-note-requires : tie.Need-note-requires Inv-loop μ-loop
-note-requires c κs = counted (c .before .before .before .before)
+take-scores-requires : tie.Need-take-scores-requires Inv-loop μ-loop
+take-scores-requires c κs = search needs
+
+note-id-requires : tie.Need-note-id-requires Inv-loop μ-loop
+note-id-requires c κs = counted (c .before .before .before .before .before)
 
 take-field-requires : tie.Need-take-field-requires Inv-loop μ-loop
 take-field-requires c κs =
-    let w = c .before .before .before .before .before .before .before .before .before in
+    let w = c .before .before .before .before .before .before .before .before .before .before in
     let l = round w .loop in
-    room (l .so) (held w) (reached w .fair) (lent-rest w) (stood w) (l .inv .3) (value w) (at w) (tag w) (head w) (unbroken w .1)
+    room (l .so) (held w) (reached w .fair) (lent-rest w) (stood w) (l .inv .4) (value w) (at w) (tag w) (head w) (unbroken w .1)
 
 further-requires : tie.Need-further-requires Inv-loop μ-loop
-further-requires c κs = counted (c .before .before .before .before .before .before .before .before .before .before)
+further-requires c κs = counted (c .before .before .before .before .before .before .before .before .before .before .before)
 
 loop-less : tie.Need-loop-less Inv-loop μ-loop
-loop-less c = let w = c .before .before .before .before .before .before .before .before .before .before .before in let f = ends (reached w) (inside w) (whole w) in search needs
+loop-less c = let w = c .before .before .before .before .before .before .before .before .before .before .before .before in let f = ends (reached w) (inside w) (whole w) in search needs
 
 loop-again : tie.Need-loop-again Inv-loop μ-loop
 loop-again c =
-    let w = c .before .before .before .before .before .before .before .before .before .before .before in
+    let w = c .before .before .before .before .before .before .before .before .before .before .before .before in
     let l = round w .loop in
-    let n = c .before .before .before .before .before .before .note .ensures in
     let f = c .before .take-field in
     let b = f .last .1 .1 .1 in (
       taken (held w) (fieldOf (tag w) (value w)),
       gone (reached w) (inside w) (whole w) (part w) (unbroken w .0) (unbroken w .1) (c .further .result) (c .further .ensures),
-      noted-taken (l .so .far) (held w) (reached w .fair) (value w) (at w) (l .inv .2) (tag w) (head w) (unbroken w .1) (n .0) (n .1),
-      shows-taken (l .so) (held w) (reached w .fair) (lent-rest w) (stood w) (l .inv .3) (value w) (at w) (tag w) (head w) (unbroken w .1) (f .result) (c .further .result) (rest (b .0) (b .1 .0) (b .1 .1 .0) (b .1 .1 .1 .0)) (f .ensures .0) (f .ensures .1),
+      table-taken (l .so .far) (held w) (reached w .fair) (value w) (at w) (l .inv .2) (tag w) (head w) (unbroken w .1) (c .before .before .before .before .before .before .before .before .take-scores .ensures),
+      ids-taken (l .so .far) (held w) (reached w .fair) (value w) (at w) (l .inv .3) (tag w) (head w) (c .before .before .before .before .before .before .note-id .ensures),
+      shows-taken (l .so) (held w) (reached w .fair) (lent-rest w) (stood w) (l .inv .4) (value w) (at w) (tag w) (head w) (unbroken w .1) (f .result) (c .further .result) (rest (b .0) (b .1 .0) (b .1 .1 .0) (b .1 .1 .1 .0)) (f .ensures .0) (f .ensures .1),
     )
 
 returns-2 : tie.Need-returns-2 Inv-loop μ-loop
@@ -165,8 +170,9 @@ returns-2 c =
       held = l .inv .0;
       read = end-kept (l .inv .1) (omega (arith, c .loop-test .left)) (s .pre .clear);
       counts = l .inv .1 .fair .counts;
-      noted = l .inv .2;
-      shows = l .inv .3;
+      table = l .inv .2;
+      ids = l .inv .3;
+      shows = l .inv .4;
     }
 
 pub take-spec : {M : Type 1} → statement M
@@ -186,7 +192,8 @@ take-spec =
     sub-value
     part-value-start
     part-value-end
-    note-requires
+    take-scores-requires
+    note-id-requires
     take-field-requires
     further-requires
     loop-less

@@ -96,8 +96,8 @@ nearest-requires c κs = search needs
 slot-for-requires : tie.Need-slot-for-requires Inv-loop μ-loop
 slot-for-requires c κs = inside (c .before .before)
 
-cast-t22 : tie.Need-cast-t22 Inv-loop μ-loop
-cast-t22 c =
+cast-t12 : tie.Need-cast-t12 Inv-loop μ-loop
+cast-t12 c =
     let n = c .before .before in
     let d = turn (n .before) in
     omega (arith, scored n, score-most (given d .args .counts .now) (d .loop .j) (n .before .before .before .loop-test .taken))
@@ -160,7 +160,7 @@ write-spec =
     mul-nearest-3
     nearest-requires
     slot-for-requires
-    cast-t22
+    cast-t12
     store-requires
     add-below
     add-j

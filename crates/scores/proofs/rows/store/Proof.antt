@@ -8,7 +8,7 @@ use mathlib.Core.Path.{_≡_, sym, _∙_}
 use borrow.Author.Needs.{needs}
 use Rattle.scores.proofs.rows.store.Statement.{statement}
 use Rattle.scores.proofs.rows.store.Tie as tie
-use Rattle.paper.proofs.bytes.put_word.Reads as put-word-reads
+use Rattle.paper.proofs.bytes.put_long.Reads as put-long-reads
 use Rattle.scores.proofs.slots.has_slot.Reads as has-slot-reads
 use Rattle.scores.proofs.slots.in_row.Reads as in-row-reads
 
@@ -33,20 +33,20 @@ mul-start c = omega (arith, there c .0)
 in-row-requires : tie.Need-in-row-requires
 in-row-requires c κs = (there c .1, there c .2)
 
-add-put-word : tie.Need-add-put-word
-add-put-word c = omega (arith, there (c .before) .0)
+add-put-long : tie.Need-add-put-long
+add-put-long c = omega (arith, there (c .before) .0)
 
-sub-put-word : tie.Need-sub-put-word
-sub-put-word c = search needs
+sub-put-long : tie.Need-sub-put-long
+sub-put-long c = search needs
 
-part-put-word-start : tie.Need-part-put-word-start
-part-put-word-start c = search needs
+part-put-long-start : tie.Need-part-put-long-start
+part-put-long-start c = search needs
 
-part-put-word-end : tie.Need-part-put-word-end
-part-put-word-end c = omega (arith, there (c .before) .0)
+part-put-long-end : tie.Need-part-put-long-end
+part-put-long-end c = omega (arith, there (c .before) .0)
 
-put-word-requires : tie.Need-put-word-requires
-put-word-requires c κs = search needs
+put-long-requires : tie.Need-put-long-requires
+put-long-requires c κs = search needs
 
 same-length : tie.Need-same-length
 same-length c = search needs
@@ -57,7 +57,7 @@ returns c =
     let row = put .before .before in
     let d = row .before in
     let g = given (d .before) .args in
-    row-scored (g .table .now) (g .subject) (put .put-word .last .0) (g .raw .0) (g .score .0) (has d) (rw (row .in-row .ensures .0) at (put .put-word .ensures))
+    row-scored (g .table .now) (g .subject) (put .put-long .last .0) (g .raw .0) (g .score .0) (has d) (rw (row .in-row .ensures .0) at (put .put-long .ensures))
 
 returns-2 : tie.Need-returns-2
 returns-2 c =
@@ -71,11 +71,11 @@ store-spec =
     has-slot-requires
     mul-start
     in-row-requires
-    add-put-word
-    sub-put-word
-    part-put-word-start
-    part-put-word-end
-    put-word-requires
+    add-put-long
+    sub-put-long
+    part-put-long-start
+    part-put-long-end
+    put-long-requires
     same-length
     returns
     returns-2)

@@ -15,17 +15,17 @@ there c = slot-there (c .before .before .before .args .table .now) (c .before .b
 has-slot-requires : tie.Need-has-slot-requires
 has-slot-requires c κs = search needs
 
-mul-word-at : tie.Need-mul-word-at
-mul-word-at c = omega (arith, there c .0)
+mul-at : tie.Need-mul-at
+mul-at c = omega (arith, there c .0)
 
 in-row-requires : tie.Need-in-row-requires
 in-row-requires c κs = (there c .1, there c .2)
 
-add-word-at : tie.Need-add-word-at
-add-word-at c = omega (arith, there (c .before) .0)
+add-at : tie.Need-add-at
+add-at c = omega (arith, there (c .before) .0)
 
-word-at-requires : tie.Need-word-at-requires
-word-at-requires c κs = search needs
+held-requires : tie.Need-held-requires
+held-requires c κs = omega (arith, c .in-row .ensures, there (c .before) .0)
 
 valued-requires : tie.Need-valued-requires
 valued-requires c κs = search needs
@@ -33,7 +33,7 @@ valued-requires c κs = search needs
 returns : tie.Need-returns
 returns c =
     let a = c .before .before .before .before .before .before .args in
-    c .valued .ensures ∙ ap valued (rw (c .before .before .in-row .ensures .0) at (c .before .word-at .ensures)) ∙ sym (found-there (a .table .now) (a .subject) (a .raw .0) (sym (c .before .before .before .before .has-slot .ensures) ∙ c .before .before .before .if1 .taken))
+    c .valued .ensures ∙ ap valued (rw (c .before .before .in-row .ensures .0) at (c .before .held .ensures)) ∙ sym (found-there (a .table .now) (a .subject) (a .raw .0) (sym (c .before .before .before .before .has-slot .ensures) ∙ c .before .before .before .if1 .taken))
 
 returns-2 : tie.Need-returns-2
 returns-2 c = sym (found-none (c .before .before .before .args .table .now) (c .before .before .before .args .subject) (c .before .before .before .args .raw .0) (sym (c .before .has-slot .ensures) ∙ c .if1 .left))
@@ -43,10 +43,10 @@ look-up-spec =
     tie.close
     (tie.spec
     has-slot-requires
-    mul-word-at
+    mul-at
     in-row-requires
-    add-word-at
-    word-at-requires
+    add-at
+    held-requires
     valued-requires
     returns
     returns-2)

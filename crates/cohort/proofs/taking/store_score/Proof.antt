@@ -1,7 +1,8 @@
 use borrow.Author.Needs.{needs}
-use Rattle.cohort.proofs.values.store_score.Statement.{statement}
-use Rattle.cohort.proofs.values.store_score.Tie as tie
+use Rattle.cohort.proofs.taking.store_score.Statement.{statement}
+use Rattle.cohort.proofs.taking.store_score.Tie as tie
 use Rattle.paper.proofs.bytes.byte_at.Reads as byte-at-reads
+use Rattle.paper.proofs.bytes.long_at.Reads as long-at-reads
 use Rattle.paper.proofs.bytes.word_at.Reads as word-at-reads
 use Rattle.scores.proofs.rows.store.Reads as store-reads
 
@@ -14,8 +15,8 @@ cast-subject c = search needs
 byte-at-requires : tie.Need-byte-at-requires
 byte-at-requires c κs = search needs
 
-word-at-requires-2 : tie.Need-word-at-requires-2
-word-at-requires-2 c κs = search needs
+long-at-requires : tie.Need-long-at-requires
+long-at-requires c κs = search needs
 
 store-requires : tie.Need-store-requires
 store-requires c κs = search needs
@@ -24,7 +25,7 @@ same-length : tie.Need-same-length
 same-length c = search needs
 
 returns : tie.Need-returns
-returns c = rw (← (c .before .before .before .before .before .before .word-at .ensures), ← (c .before .before .before .before .before .byte-at .ensures), ← (c .before .before .before .before .word-at2 .ensures)) (c .before .before .store .ensures)
+returns c = rw (← (c .before .before .before .before .before .before .word-at .ensures), ← (c .before .before .before .before .before .byte-at .ensures), ← (c .before .before .before .before .long-at .ensures)) (c .before .before .store .ensures)
 
 pub store-score-spec : {M : Type 1} → statement M
 store-score-spec =
@@ -33,7 +34,7 @@ store-score-spec =
     word-at-requires
     cast-subject
     byte-at-requires
-    word-at-requires-2
+    long-at-requires
     store-requires
     same-length
     returns)
