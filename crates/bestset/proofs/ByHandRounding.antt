@@ -17,7 +17,7 @@ use Rattle.results.specs.Counting.{usable, usableAt, showsEnglish, kept}
 use Rattle.bestset.specs.Rules.{wrong, unscored, repeated}
 use Rattle.bestset.specs.Promise.{Values, aggregateOf}
 use Rattle.bestset.specs.Computed.{admissible, earlier, chosen, computed}
-use Rattle.bestset.specs.Examples.{dated}
+use Rattle.bestset.specs.Examples.{catalogue3, dated}
 use Rattle.bestset.proofs.ByHand.{gives}
 
 -- a sum in hundredths, nearest, halves up: below a half, a half, above it; what ends in 45 is not rounded twice; to the greatest sum
@@ -27,17 +27,7 @@ pub halves : (aggregateOf 0 ≡ 0) × (aggregateOf 1 ≡ 0) × (aggregateOf 49 �
 unfolding aggregateOf nearest
 halves = (refl, refl, refl, refl, refl, refl, refl, refl, refl, refl, refl, refl, refl, refl, refl, refl)
 
--- English and five other Generals; the scores of those that a student has, each in slot 1 of its row
-abbrev pub six : List ℕ
-six =
-    1 ∷ 1 ∷ 0 ∷ 0 ∷ 1
-    ∷ 1 ∷ 0 ∷ 0 ∷ 0 ∷ 2
-    ∷ 1 ∷ 0 ∷ 0 ∷ 0 ∷ 3
-    ∷ 1 ∷ 0 ∷ 0 ∷ 0 ∷ 4
-    ∷ 1 ∷ 0 ∷ 0 ∷ 0 ∷ 5
-    ∷ 1 ∷ 0 ∷ 0 ∷ 0 ∷ 6
-    ∷ []
-
+-- the scores of those that a student has of seven Generals, each in slot 1 of its row
 abbrev pub rows : List ℕ → List ℕ
 rows [] = []
 rows (score ∷ scores) = longBytes score ++ (replicate 396 255 ++ rows scores)
@@ -47,10 +37,10 @@ five more = dated 0 letterC 1 2021 (dated 1 letterC 1 2021 (dated 2 letterC 1 20
 
 -- a student of five results by their scores, and one of six
 abbrev pub ofFive : ℕ → ℕ → ℕ → ℕ → ℕ → Outcome Values
-ofFive a b c d e = computed (student six 2021 (five [])) (rows (a ∷ b ∷ c ∷ d ∷ e ∷ 0 ∷ []))
+ofFive a b c d e = computed (student catalogue3 2021 (five [])) (rows (a ∷ b ∷ c ∷ d ∷ e ∷ 0 ∷ 0 ∷ []))
 
 abbrev pub ofSix : ℕ → ℕ → ℕ → ℕ → ℕ → ℕ → Outcome Values
-ofSix a b c d e f = computed (student six 2021 (five (dated 5 letterC 1 2021 []))) (rows (a ∷ b ∷ c ∷ d ∷ e ∷ f ∷ []))
+ofSix a b c d e f = computed (student catalogue3 2021 (five (dated 5 letterC 1 2021 []))) (rows (a ∷ b ∷ c ∷ d ∷ e ∷ f ∷ 0 ∷ []))
 
 -- no score is rounded before the sum: five that end in 40 come to 2 hundredths more, in 50 to 2.5, in 60 to 3; one at 87.3812 and four at 84.8109
 pub rounded-once : (ofFive 500040 500040 500040 500040 500040 ≡ gives 25002 31) × (ofFive 500050 500050 500050 500050 500050 ≡ gives 25003 31) × (ofFive 500060 500060 500060 500060 500060 ≡ gives 25003 31)

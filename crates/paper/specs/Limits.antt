@@ -18,8 +18,8 @@ mostSubjects = 64
 abbrev pub mostResults : ℕ
 mostResults = 16
 
--- the score table: the slots of a row, the bytes of a slot and of a row, what a missing slot holds and each byte of it; the parts of one
--- in which its scores are, and the greatest score, 100, in these
+-- the score table: the slots of a row, the bytes of a slot and of a row, what a missing slot holds and each byte of it; the greatest
+-- score, 100; the parts of one in which scores are, and the greatest score in these
 abbrev pub slots : ℕ
 slots = 100
 

@@ -11,7 +11,7 @@ use Rattle.paper.specs.Limits.{slots, rowBytes, topScore}
 use Rattle.paper.specs.Ranges.{within}
 use Rattle.paper.specs.Bytes.{long}
 use Rattle.paper.proofs.Written.{long-before, long-after}
-use Rattle.scores.specs.Scores.{rows, hasSlot, inRow, slotAt, Found, scaled, absent, tooHigh, valued, found}
+use Rattle.scores.specs.Scores.{hasSlot, inRow, slotAt, Found, scaled, absent, tooHigh, valued, found}
 use Rattle.scores.specs.Rows.{missingRow, stored}
 use Rattle.scores.specs.Meaning.{NoneOver}
 use Rattle.scores.proofs.Rowed.{slot-there, there-slot, length-missing, stored-none}
@@ -33,7 +33,7 @@ none-over-empty subject slot = absent-over _ (found-empty subject slot)
 
 -- with a row more, every slot missing, the same is found in each slot: those of the row were not there
 pub found-more : (table : List ℕ) (n : ℕ) → length table ≡ rowBytes * n → (subject slot : ℕ) → found (table ++ missingRow) subject slot ≡ found table subject slot
-found-more table n l subject slot = go (hasSlot table subject slot) (hasSlot more subject slot) refl refl
+found-more table n l subject slot = go (hasSlot table subject slot) (hasSlot more subject slot) refl refl (decLt subject n)
   where
     more : List ℕ
     more = table ++ missingRow
@@ -41,25 +41,23 @@ found-more table n l subject slot = go (hasSlot table subject slot) (hasSlot mor
     more-rows : length more ≡ rowBytes * n + rowBytes
     more-rows = omega (arith, length-append table missingRow, length-missing)
 
-    go : (a b : Bool) → hasSlot table subject slot ≡ a → hasSlot more subject slot ≡ b → found more subject slot ≡ found table subject slot
-    go true b e f =
+    go : (a b : Bool) → hasSlot table subject slot ≡ a → hasSlot more subject slot ≡ b → Dec (subject < n) → found more subject slot ≡ found table subject slot
+    go true b e f d =
         let h = slot-there table subject slot e in
         found-there more subject slot (there-slot more subject slot (omega (arith, more-rows)) (h .1) (h .2))
         ∙ ap valued (long-before table missingRow (slotAt subject slot) (omega arith))
         ∙ sym (found-there table subject slot e)
-    go false false e f = found-none more subject slot f ∙ sym (found-none table subject slot e)
-    go false true e f =
+    go false false e f d = found-none more subject slot f ∙ sym (found-none table subject slot e)
+    go false true e f (yes p) =
         let h = slot-there more subject slot f in
-        let new : (subject < n) → ⊥ = λ p. true≢false (sym (there-slot table subject slot (omega arith) (h .1) (h .2)) ∙ e) in
-        let s : subject ≡ n = go-new (decLt subject n) new (h .0) in
+        absurd (true≢false (sym (there-slot table subject slot (omega arith) (h .1) (h .2)) ∙ e))
+    go false true e f (no p) =
+        let h = slot-there more subject slot f in
+        let own : subject ≡ n = omega (arith, more-rows) in
         let at : slotAt subject slot ≡ length table + inRow slot = omega arith in
         found-there more subject slot f
         ∙ ap valued (ap (long more) at ∙ long-after table missingRow (inRow slot) ∙ missing-long (inRow slot) (omega arith))
         ∙ sym (found-none table subject slot e)
-      where
-        go-new : Dec (subject < n) → ((subject < n) → ⊥) → subject < rows more → subject ≡ n
-        go-new (yes p) new r = absurd (new p)
-        go-new (no p) new r = omega (arith, more-rows)
 
 pub none-over-row : (table : List ℕ) (n : ℕ) → length table ≡ rowBytes * n → NoneOver table → NoneOver (table ++ missingRow)
 none-over-row table n l none subject slot o = none subject slot (sym (found-more table n l subject slot) ∙ o)

@@ -70,7 +70,7 @@ fn set(table: &mut [u8; TABLE], number: u8, score: u32) {
     rows::store(table, 7, Raw(number), Scaled(score));
 }
 
-// Geography 50 scores a little more than the others' 50.00: by rounded sums the first five would be chosen.
+// Geography 50 scores a little more than the others' 50.00: at 50.0049 the first five would be chosen by rounded sums.
 fn decimals(table: &mut [u8; TABLE]) {
     set(table, 50, 50 * SCORE_PARTS + 49);
     pupils::best(b"a sum of 250.0049: ", table, six(b'C', 50, 2021));
