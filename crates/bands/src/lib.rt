@@ -1,17 +1,9 @@
 // The placing of students in bands: by direct count, and over the tally with their ranks.
-ghost use Rattle.bands.specs.Promise.{Promise, lent, TogetherPromise};
-use paper::refusal::Refusal;
+ghost use Rattle.placements.specs.Promise.{Promise, lent, TogetherPromise};
 use paper::screening::Verdict;
+use placements::Answer;
 
-mod direct;
 mod screening;
-mod together;
-
-// The remainder, or what is wrong.
-pub enum Answer {
-    Accepted { remainder: usize },
-    Refused(Refusal),
-}
 
 // Bands of up to 512 students, by direct count. A refusal writes nothing.
 pub fn place(aggregates: &[u32], table: &[u32], population: u32, bands: &mut [u16]) -> Answer

@@ -22,14 +22,16 @@ use Rattle.results.specs.Results.{Student, held, result}
 use Rattle.results.specs.Scoring.{scoreAt}
 use Rattle.results.specs.Counting.{usable, showsEnglish}
 use Rattle.results.proofs.Scores.{score-most}
-use Rattle.bestset.specs.Admissible.{Admissible}
-use Rattle.bestset.specs.Rules.{turnRules, repeated, studentRules}
-use Rattle.bestset.specs.Promise.{Values, WellFormed, ruling, aggregateOf, Answered, RuledBy, Ruled, Promise}
+use Rattle.sets.specs.Admissible.{Admissible}
+use Rattle.sets.specs.Rules.{turnRules, repeated, studentRules}
+use Rattle.sets.specs.Promise.{Values, WellFormed, ruling, aggregateOf, Answered, RuledBy, Ruled, Promise}
+use Rattle.sets.specs.declared.Answer.the-variants.{Refused}
+use Rattle.sets.proofs.Formed.{kept-held, few-held}
 use Rattle.bestset.specs.InnerJudging.{startRules, Begun}
-use Rattle.bestset.specs.InnerMarks.{MaskOf, ByPosition, outcome}
-use Rattle.bestset.specs.InnerPairs.{repeatedIn, FirstAgain}
-use Rattle.bestset.specs.declared.Answer.the-variants.{Refused}
-use Rattle.bestset.proofs.Clashing.{TestOf, same-total, kept-held, few-held, allowed-admissible, admissible-allowed}
+use Rattle.clashes.specs.InnerMasks.{MaskOf}
+use Rattle.bestset.specs.InnerMarks.{ByPosition, outcome}
+use Rattle.clashes.specs.InnerPairs.{repeatedIn, FirstAgain}
+use Rattle.bestset.proofs.Clashing.{TestOf, same-total, allowed-admissible, admissible-allowed}
 use Rattle.bestset.proofs.Judging.{judges, start-refused, turn-refused, repeat-left}
 use Rattle.bestset.proofs.Marking.{read-most}
 use Rattle.bestset.proofs.Usable.{repeated-is}

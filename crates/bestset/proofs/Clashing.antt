@@ -1,34 +1,33 @@
 -- The sets that the search allows, five kept results with at least four General, no two of which clash, are the paper's admissible sets.
 use Prim.Native.Nat.{ℕ, zero, suc, _+_, _/_, _%_, _≤_, _<_}
-use native.Mathlib.Decide.{decLt, ℕ-discrete}
+use native.Mathlib.Decide.{decLt}
 use native.Mathlib.Omega.{arith}
 use mathlib.Core.Path.{_≡_, refl, sym, ap, ap₂, subst, _∙_}
-use mathlib.Core.Bool.{Bool, true, false, not, _&&_, _||_, true≢false}
-use mathlib.Core.Logic.{_⊎_, inl, inr, ⊎-elim}
-use mathlib.Core.List.{List, [], _∷_, _++_}
-use borrow.Author.Tests.{ltb-true, ltb-false, leb-true, leb-false, eqb-true, eqb-false, not-true, eq-eqb, ne-eqb, le-ltb}
+use mathlib.Core.Bool.{Bool, true, false, _&&_, _||_, true≢false}
+use mathlib.Core.Logic.{⊎-elim}
+use mathlib.Core.List.{List}
+use borrow.Author.Tests.{ltb-false, leb-true, eqb-true, eqb-false, not-true, eq-eqb, ne-eqb, le-ltb}
 use Rattle.paper.specs.Limits.{mostResults, mostSpan}
 use Rattle.paper.specs.Lists.{pick, some}
-use Rattle.paper.specs.Words.{_≤?_, _<?_, _=?_, _≠?_}
+use Rattle.paper.specs.Words.{_≤?_, _=?_, _≠?_}
 use Rattle.paper.proofs.Booleans.{both-true, true-both, not-both, true-not}
-use Rattle.paper.proofs.Ruled.{Unbroken, all-unbroken, unbroken-parts, unbroken-turns}
-use Rattle.catalogue.specs.Catalogue.{subjects, catalogueRules}
 use Rattle.catalogue.specs.Kinds.{english, mathematics, general, externalExamination, applied}
-use Rattle.catalogue.proofs.Promised.{kept-sound}
 use Rattle.seek.specs.Sets.{In, has, onesFrom, positions, sumOver, countOver, comesTo}
 use Rattle.seek.specs.InnerTest.{valueAt, Apart, Allowed}
 use Rattle.seek.specs.declared.search.Test.{Test}
 use Rattle.seek.proofs.Digits.{digit, bit-zero, bit-suc, ones-from-0, ones-from-1}
 use Rattle.results.specs.Results.{Student, held, result}
 use Rattle.results.specs.Scoring.{ownIdentity, identityAt}
-use Rattle.results.specs.Counting.{generalAt, appliedAt, strandAt, usableAt, later, kept}
-use Rattle.bestset.specs.Admissible.{NotBoth, identified, OneEach, FiveYears, Admissible}
-use Rattle.bestset.specs.Rules.{resultRules, inputRules, turnRules, repeated, repeatRule, studentRules}
-use Rattle.bestset.specs.Promise.{WellFormed}
-use Rattle.bestset.specs.InnerMarks.{MaskOf, AllRead}
-use Rattle.bestset.specs.InnerPairs.{farIn, across, clashIn, HoldsBelow, AllCompared}
-use Rattle.bestset.specs.declared.marks.Masks.{Masks}
-use Rattle.bestset.proofs.Usable.{has-test, kept-is}
+use Rattle.results.specs.Counting.{generalAt, appliedAt, strandAt, kept}
+use Rattle.sets.specs.Admissible.{NotBoth, identified, OneEach, FiveYears, Admissible}
+use Rattle.sets.specs.Promise.{WellFormed}
+use Rattle.sets.proofs.Formed.{kept-held, identity-known}
+use Rattle.clashes.specs.InnerMasks.{MaskOf}
+use Rattle.clashes.proofs.Masking.{has-test}
+use Rattle.bestset.specs.InnerMarks.{AllRead}
+use Rattle.clashes.specs.InnerPairs.{farIn, across, clashIn, HoldsBelow, AllCompared}
+use Rattle.clashes.specs.declared.masks.Masks.{Masks}
+use Rattle.bestset.proofs.Usable.{kept-is}
 
 -- ---- which results clash
 
@@ -160,49 +159,13 @@ module _ (k : ℕ) (s : Student) (set : ℕ) where
 
 -- ---- no two of kinds 1 or 3 with one identity
 
--- a kept result is usable, so one of the results
-pub usable-held : (s : Student) (i : ℕ) → usableAt s i ≡ true → i < held s
-unfolding usableAt
-usable-held s i e = ltb-true i (held s) (both-true (i <? held s) _ e .0)
-
-pub kept-held : (s : Student) (i : ℕ) → kept s i ≡ true → i < held s
-unfolding kept
-kept-held s i e = usable-held s i (both-true (usableAt s i) (not (some (held s) (later s i))) e .0)
-
 module _ (s : Student) (table : List ℕ) (w : WellFormed s table) where
-  -- a well-formed student breaks no rule of the catalogue, none of lengths, nor one of a result, and has none repeated
-  pub rules-kept : Unbroken (catalogueRules (s .catalogue)) × Unbroken (inputRules s table) × ((i : ℕ) → i < held s → Unbroken (resultRules s table i)) × (some (held s) (repeated s) ≡ false)
-  rules-kept =
-      let turns = turnRules s table in
-      let rest = turns ++ (repeatRule s ∷ []) in
-      let k = unbroken-parts (catalogueRules (s .catalogue)) (inputRules s table ++ rest) (all-unbroken (studentRules s table) tt tt w) in
-      let l = unbroken-parts (inputRules s table) rest (k .1) in
-      let m = unbroken-parts turns (repeatRule s ∷ []) (l .1) in
-      (k .0, l .0, unbroken-turns (held s) (resultRules s table) (m .0), m .1 .0)
-
-  -- so at most mostResults results are held
-  pub few-held : held s ≤ mostResults
-  few-held = ltb-false mostResults (held s) (rules-kept .1 .1 .1 .1 .0)
-
-  -- the subject of each result is in the catalogue
-  pub subject-known : (i : ℕ) → i < held s → result s i .subject < subjects (s .catalogue)
-  subject-known i l = leb-false (subjects (s .catalogue)) (result s i .subject) (rules-kept .2 i l .0)
-
-  -- and a kept result of kinds 1 or 3 has an identity
-  pub identity-known : (i : ℕ) → kept s i ≡ true → identified s i ≡ true → 1 ≤ result s i .entry .identity
-  identity-known i k e =
-      kept-sound (s .catalogue) (rules-kept .0) .ranged (result s i .subject) (subject-known i (kept-held s i k)) .has-identity (go (ℕ-discrete (result s i .entry .kind) general))
-    where
-      go : Dec (result s i .entry .kind ≡ general) → (result s i .entry .kind ≡ general) ⊎ (result s i .entry .kind ≡ externalExamination)
-      go (yes p) = inl p
-      go (no n) = inr (eqb-true _ externalExamination (rw (ne-eqb _ general n) at e))
-
   no-two-each : (set : ℕ) → ((i : ℕ) → In i set → kept s i ≡ true) → NoTwo (sharedAt s) set → OneEach s set
   unfolding ownIdentity
   no-two-each set k h i j l p q x y e =
       let own : identityAt s j ≡ result s j .entry .identity = rw y in
       let same : identityAt s i ≡ identityAt s j = rw (x, y) e in
-      let some = identity-known j (k j q) y in
+      let some = identity-known s table w j (k j q) y in
       true≢false (sym (true-both (identityAt s j ≠? 0) (identityAt s i =? identityAt s j) (true-not _ (ne-eqb (identityAt s j) 0 (λ z. omega arith))) (eq-eqb _ _ same)) ∙ h j i l q p)
 
 each-no-two : (s : Student) (set : ℕ) → OneEach s set → NoTwo (sharedAt s) set

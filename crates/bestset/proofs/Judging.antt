@@ -8,7 +8,7 @@ use Rattle.paper.specs.Rulings.{Fault, Outcome, accepted, refused, Rule, judged
 use Rattle.paper.proofs.Ruled.{Unbroken, all-unbroken, unbroken-parts, after-unbroken, before-refused}
 use Rattle.catalogue.specs.Catalogue.{catalogueRules}
 use Rattle.results.specs.Results.{Student, held}
-use Rattle.bestset.specs.Rules.{inputRules, turnRules, repeatRule, studentRules}
+use Rattle.sets.specs.Rules.{inputRules, turnRules, repeatRule, studentRules}
 use Rattle.bestset.specs.InnerJudging.{startRules, Begun}
 
 -- what rules decide

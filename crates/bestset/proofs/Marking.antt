@@ -1,60 +1,17 @@
 -- What a loop over the results builds: a mask holds the results of a test, one law for every test; a list has their values by position.
-use Prim.Native.Nat.{ℕ, zero, suc, _+_, _*_, _%_, _^_, _≤_, _<_}
+use Prim.Native.Nat.{ℕ, zero, suc, _+_, _≤_, _<_}
 use native.Mathlib.Decide.{decLt, ℕ-discrete}
-use native.Mathlib.Nat.{eq-or-lt-of-le}
-use native.Mathlib.Numerals.{add-one}
 use native.Mathlib.Omega.{arith}
-use mathlib.Core.Path.{_≡_, refl, sym, _∙_, subst}
-use mathlib.Core.Logic.{⊎-elim}
-use mathlib.Core.Bool.{Bool, true, false, true≢false}
+use mathlib.Core.Path.{_≡_, refl, _∙_}
 use mathlib.Core.List.{List}
-use lib.Bits.{bitOr}
 use lib.ListN.{length, getD, set, replicate}
 use lib.Seq.{getD-set-same, getD-set-other}
 use Rattle.paper.specs.Limits.{mostResults}
-use Rattle.seek.specs.Sets.{In}
 use Rattle.seek.specs.InnerTest.{valueAt}
 use Rattle.results.specs.Results.{Student, result}
-use Rattle.bestset.specs.InnerMarks.{MaskOf, unmarked, marked, withOne, Masked, ByPosition}
-use Rattle.bestset.specs.declared.marks.Masks.{Masks}
-use Rattle.seek.proofs.Digits.{in-none, in-joined, low-bit, top-bit}
-use Rattle.seek.proofs.Steps.{next}
-
-module _ (f : ℕ → Bool) where
-  -- no result
-  pub none : MaskOf f 0 0
-  none = record { small = omega arith; sound = λ i p. absurd (in-none i p); whole = λ i l p. absurd (omega arith) }
-
-  join : (n m : ℕ) → n < mostResults → MaskOf f n m → f n ≡ true → MaskOf f (n + 1) (bitOr m (1 * 2 ^ n % 65536))
-  join n m h a p =
-      let l = a .small in
-      rw (next n m h l, add-one n) (record {
-        small = omega arith;
-        sound = λ i q. ⊎-elim (λ (e : i ≡ n). subst (λ (x : ℕ). f x ≡ true) (sym e) p) (a .sound i) (in-joined n m i l q);
-        whole = λ i g q.
-            ⊎-elim
-            (λ (e : suc i ≡ suc n). let d : n ≡ i = omega arith in subst (λ (x : ℕ). In x (1 * 2 ^ n + m)) d (top-bit n 1 m l))
-            (λ (e : suc i < suc n). low-bit i n 1 m (omega arith) ∙ a .whole i (omega arith) q)
-            (eq-or-lt-of-le g);
-      })
-
-  skip : (n m : ℕ) → MaskOf f n m → f n ≡ false → MaskOf f (n + 1) m
-  skip n m a p =
-      let l = a .small in
-      rw (add-one n) (record {
-        small = omega arith;
-        sound = a .sound;
-        whole = λ i g q.
-            ⊎-elim
-            (λ (e : suc i ≡ suc n). let d : i ≡ n = omega arith in absurd (true≢false (sym (subst (λ (x : ℕ). f x ≡ true) d q) ∙ p)))
-            (λ (e : suc i < suc n). a .whole i (omega arith) q)
-            (eq-or-lt-of-le g);
-      })
-
-  -- result n more
-  pub one : (n m : ℕ) → n < mostResults → MaskOf f n m → (b : Bool) → f n ≡ b → MaskOf f (n + 1) (marked m n b)
-  one n m h a true e = join n m h a e
-  one n m h a false e = skip n m a e
+use Rattle.clashes.proofs.Masking.{none, one}
+use Rattle.bestset.specs.InnerMarks.{unmarked, withOne, Masked, ByPosition}
+use Rattle.clashes.specs.declared.masks.Masks.{Masks}
 
 -- at first no result is in a mask
 pub masked-none : (s : Student) → Masked s 0 unmarked

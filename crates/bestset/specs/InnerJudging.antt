@@ -10,7 +10,7 @@ use Rattle.scores.specs.Scores.{Found}
 use Rattle.results.specs.Results.{Student}
 use Rattle.results.specs.Counting.{usable}
 use Rattle.results.specs.declared.reading.Result.{Result}
-use Rattle.bestset.specs.Rules.{wrong, isScore, inputRules}
+use Rattle.sets.specs.Rules.{wrong, isScore, inputRules}
 
 -- a result, what is found in its slot: it is usable, and that is no score
 abbrev pub unscoredWith : Result → Found → Bool

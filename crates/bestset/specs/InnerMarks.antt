@@ -1,16 +1,13 @@
 -- What is read of the results: masks, bit i for result i, and numbers by position.
-use Prim.Native.Nat.{ℕ, _*_, _%_, _^_, _≤_, _<_}
+use Prim.Native.Nat.{ℕ, _≤_, _<_}
 use mathlib.Core.Path.{_≡_}
-use mathlib.Core.Bool.{Bool, true, _&&_}
+use mathlib.Core.Bool.{_&&_}
 use mathlib.Core.List.{List}
-use lib.Bits.{bitOr}
 use lib.ListN.{length}
 use Rattle.paper.specs.Limits.{mostResults}
 use Rattle.paper.specs.Refusals.{fault}
 use Rattle.paper.specs.Rulings.{Outcome, accepted, refused, _at_, judged}
-use Rattle.paper.specs.Words.{if_then_else_}
 use Rattle.catalogue.specs.Kinds.{english, mathematics}
-use Rattle.seek.specs.Sets.{In}
 use Rattle.seek.specs.InnerTest.{valueAt}
 use Rattle.seek.specs.declared.search.Lead.{Lead}
 use Rattle.seek.specs.declared.search.Lead.the-variants.{Leading, Nothing}
@@ -18,21 +15,12 @@ use Rattle.results.specs.Results.{heldIn, Student, held, result}
 use Rattle.results.specs.Counting.{ofGeneral, ofApplied, ofStrand, generalAt, appliedAt, strandAt, usable, passes, passesAt}
 use Rattle.results.specs.Scoring.{scoreAt, identityAt}
 use Rattle.results.specs.declared.reading.Result.{Result}
-use Rattle.bestset.specs.Rules.{turnRules}
-use Rattle.bestset.specs.Promise.{Values, aggregateOf}
-use Rattle.bestset.specs.declared.marks.Masks.{Masks}
+use Rattle.clashes.specs.InnerMasks.{MaskOf, marked}
+use Rattle.sets.specs.Rules.{turnRules}
+use Rattle.sets.specs.Promise.{Values, aggregateOf}
+use Rattle.clashes.specs.declared.masks.Masks.{Masks}
 use Rattle.bestset.specs.declared.marks.Reading.{Reading}
 use Rattle.bestset.specs.declared.marks.Reading.the-variants.{All, Wrong}
-
--- of the results below n a mask holds those of f, and those alone
-pub record MaskOf (f : ℕ → Bool) (n mask : ℕ) : Type 0 where
-  pub small : mask < 2 ^ n
-  pub sound : (i : ℕ) → In i mask → f i ≡ true
-  pub whole : (i : ℕ) → i < n → f i ≡ true → In i mask
-
--- a mask with result i, if it is of the sort
-abbrev pub marked : ℕ → ℕ → Bool → ℕ
-marked mask i belongs = if belongs then bitOr mask (1 * 2 ^ i % 65536) else mask
 
 -- no result is marked
 abbrev pub unmarked : Masks

@@ -1,11 +1,12 @@
 // One student: the best set of five results, or why there is none.
 ghost use mathlib.Core.Path.{_≡_};
 ghost use Rattle.results.specs.Results.{student};
-ghost use Rattle.bestset.specs.Promise.{said, aggregateOf, Promise};
+ghost use Rattle.sets.specs.Promise.{said, aggregateOf, Promise};
 ghost use Rattle.bestset.specs.InnerMarks.{outcome};
 ghost use Rattle.bestset.specs.InnerJudging.{Begun};
 use crate::marks::Reading;
-use crate::pairs::Compared;
+use clashes::pairs;
+use clashes::pairs::Compared;
 use paper::limits::MOST_RESULTS;
 use paper::limits::RESULT_BYTES;
 use paper::limits::SCORE_PARTS;
@@ -17,16 +18,10 @@ use paper::widening::wide32;
 use seek::search;
 use seek::search::Lead;
 use seek::search::Test;
+use sets::Answer;
 
 mod marks;
-mod pairs;
 mod readable;
-
-// The aggregate in hundredths and the set, bit i for result i; or what is wrong.
-pub enum Answer {
-    Accepted { aggregate: u32, set: u16 },
-    Refused(Refusal),
-}
 
 // The aggregate of a sum of scores: in hundredths, nearest, halves up.
 fn aggregate_of(sum: u32) -> u32

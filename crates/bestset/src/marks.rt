@@ -1,14 +1,16 @@
 // What is read of the results, each once: masks of their sorts, bit i for result i, and scores and identities by position.
 ghost use mathlib.Core.Path.{_≡_};
-ghost use mathlib.Core.Bool.{_&&_, _||_};
 ghost use Prim.Native.Nat.{_<_};
 ghost use Rattle.paper.specs.Limits.{mostResults};
 ghost use Rattle.results.specs.Results.{student};
-ghost use Rattle.bestset.specs.InnerMarks.{unmarked, marked, withOne, ToRead, ReadAs};
+ghost use Rattle.bestset.specs.InnerMarks.{unmarked, withOne, ToRead, ReadAs};
 use crate::readable;
 use catalogue::kinds;
 use catalogue::kinds::ENGLISH;
 use catalogue::kinds::MATHEMATICS;
+use clashes::masks::Masks;
+use clashes::masks::both;
+use clashes::masks::marked;
 use paper::limits::ENTRY_BYTES;
 use paper::limits::MOST_RESULTS;
 use paper::limits::RESULT_BYTES;
@@ -19,45 +21,10 @@ use results::reading;
 use results::reading::Result;
 use results::scoring;
 
-// The usable results, those that show English, the General ones, and those of each sort that the rules of sets ask for.
-pub(crate) struct Masks {
-    pub(crate) usable: u16,
-    pub(crate) passes: u16,
-    pub(crate) general: u16,
-    pub(crate) general_english: u16,
-    pub(crate) applied_english: u16,
-    pub(crate) general_maths: u16,
-    pub(crate) applied_maths: u16,
-}
-
 // All results were read, or what is wrong with the first that is wrong.
 pub(crate) enum Reading {
     All(Masks),
     Wrong(Refusal),
-}
-
-// A mask with result i, if it is of the sort.
-pub(crate) fn marked(mask: u16, i: usize, belongs: bool) -> u16
-    requires { ⌜ i < mostResults ⌝ }
-    ensures { λ r. ⌜ r ≡ marked mask i belongs ⌝ }
-{
-    if belongs {
-        return mask | (1u16 << i);
-    }
-    mask
-}
-
-// Whether both hold, and whether one does: as calls, so that filling in a mask has no branch of its own.
-pub(crate) fn both(one: bool, other: bool) -> bool
-    ensures { λ r. ⌜ r ≡ (one && other) ⌝ }
-{
-    one && other
-}
-
-pub(crate) fn either(one: bool, other: bool) -> bool
-    ensures { λ r. ⌜ r ≡ (one || other) ⌝ }
-{
-    one || other
 }
 
 // The masks with result i.

@@ -7,7 +7,7 @@ ghost use Rattle.paper.specs.Screening.{ruled};
 ghost use Rattle.catalogue.specs.Catalogue.{subjects};
 ghost use Rattle.scores.specs.Promise.{looked};
 ghost use Rattle.results.specs.Results.{student};
-ghost use Rattle.bestset.specs.Rules.{gradeFits, wrong, isScore, inputRules};
+ghost use Rattle.sets.specs.Rules.{gradeFits, wrong, isScore, inputRules};
 ghost use Rattle.bestset.specs.InnerJudging.{unscoredWith, rulesOf, startRules};
 use catalogue::kinds;
 use paper::limits::ENTRY_BYTES;

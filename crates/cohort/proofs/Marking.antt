@@ -13,8 +13,8 @@ use Rattle.scores.specs.Rows.{stored}
 use Rattle.scores.proofs.Rowed.{there-slot}
 use Rattle.scores.proofs.Filling.{found-stored, stored-other}
 use Rattle.scores.proofs.Within.{found-empty, found-more}
-use Rattle.cohort.specs.Taking.{newRow}
-use Rattle.cohort.specs.Judging.{given}
+use Rattle.held.specs.Taking.{newRow}
+use Rattle.held.specs.Judging.{given}
 use Rattle.cohort.specs.Inner.{Marked}
 use Rattle.cohort.specs.InnerValues.{slotPlace, isMarked}
 

@@ -12,7 +12,7 @@ use Rattle.paper.specs.Rulings.{accepted, Rule, judged}
 use Rattle.scores.specs.Rows.{cleared, stored}
 use Rattle.curve.specs.Population.{Y, rate, populationRules}
 use Rattle.fields.specs.declared.order.Far.{Far}
-use Rattle.cohort.specs.Taking.{figuresIn}
+use Rattle.held.specs.Taking.{figuresIn}
 use Rattle.cohort.specs.declared.steps.SoFar.{SoFar}
 
 -- no rule is broken

@@ -31,11 +31,11 @@ fn read_input(file: &mut [u8]) -> Input
     Input::Read(n)
 }
 
-// Writes the listing of a file. A text buffer of its length is accepted, whatever the file: `room` (report/proofs/Promised.antt).
+// Writes the listing of a file. A text buffer of its length is accepted, whatever the file: `room` (printed/proofs/Promised.antt).
 fn list(file: &[u8]) {
     let mut text = [0u8; TEXT_BYTES];
     let answer = report::report(file, &mut text);
-    if let report::Answer::Accepted { length } = answer {
+    if let printed::Answer::Accepted { length } = answer {
         if !io::write_all(STDOUT_FILENO, &text[..length]) {
             io::write_all(STDERR_FILENO, b"estimate: the listing cannot be written\n");
         }

@@ -3,11 +3,9 @@ use Prim.Native.Nat.{ℕ, _<_, _≤_}
 use mathlib.Core.Path.{_≡_}
 use mathlib.Core.List.{List}
 use lib.ListN.{length, getD}
-use Rattle.paper.specs.Limits.{slots, rowBytes, missing, mostCount}
-use Rattle.paper.specs.Lists.{first}
-use Rattle.paper.specs.Words.{_<?_, _=?_, if_then_else_}
-use Rattle.initial.specs.Counts.{total, score}
-use Rattle.initial.specs.Row.{asked, slotFor}
+use Rattle.paper.specs.Limits.{slots, rowBytes, mostCount}
+use Rattle.firsts.specs.Counts.{total}
+use Rattle.firsts.specs.Row.{asked}
 
 -- counts that can be summed: at most 100, and none over the greatest
 pub record Countable (counts : List ℕ) : Type 0 where
@@ -20,9 +18,3 @@ pub record Writable (kind : ℕ) (counts : List ℕ) (all : ℕ) (row : List ℕ
   pub all-are : all ≡ total counts
   pub most : all ≤ mostCount
   pub whole : length row ≡ rowBytes
-
--- what a slot holds with the first n results written
-unfoldable pub scoreAmong : ℕ → List ℕ → ℕ → ℕ → ℕ
-scoreAmong kind counts n slot =
-    let j = first n (λ i. slotFor kind i =? slot) in
-    if j <? n then score counts j else missing

@@ -1,4 +1,1 @@
-pub mod Counts
-pub mod Row
 pub mod Inner
-pub mod Promise

@@ -1,6 +1,6 @@
 // The total of a subject's counts.
 ghost use mathlib.Core.Path.{_≡_};
-ghost use Rattle.initial.specs.Counts.{total};
+ghost use Rattle.firsts.specs.Counts.{total};
 ghost use Rattle.initial.specs.Inner.{Countable};
 use paper::widening::wide32;
 

@@ -1,8 +1,9 @@
 // First scaled scores of a subject, from how many students have each raw result.
-ghost use Rattle.initial.specs.Promise.{Promise};
+ghost use Rattle.firsts.specs.Promise.{Promise};
 use catalogue::kinds::GENERAL;
 use catalogue::kinds::SHORT_COURSE;
 use catalogue::kinds::VET;
+use firsts::Answer;
 use paper::bounds;
 use paper::limits::MOST_COUNT;
 use paper::limits::ROW_BYTES;
@@ -12,12 +13,6 @@ use paper::widening::wide32;
 
 mod counts;
 mod row;
-
-// Accepted, or what is wrong.
-pub enum Answer {
-    Accepted,
-    Refused(Refusal),
-}
 
 // Writes the subject's row of the table, and no other. A refusal writes nothing. Kind and subject are wide, so that neither is cut.
 pub fn first_scores(kind: u32, subject: u32, counts: &[u32], table: &mut [u8]) -> Answer

@@ -6,14 +6,14 @@ use Rattle.paper.specs.Rounding.{nearest}
 use Rattle.paper.specs.Lists.{sum, count, sumOf, listed}
 use Rattle.paper.specs.Words.{_=?_, if_then_else_}
 use Rattle.paper.specs.Rulings.{Outcome, accepted, refused, _at_}
-use Rattle.bestset.specs.Promise.{Values}
+use Rattle.sets.specs.Promise.{Values}
 use Rattle.ranks.specs.Ranking.{ranksOf, percentilesOf}
 use Rattle.tally.specs.Places.{places, bandUpTo}
-use Rattle.bands.specs.Placing.{remainder}
-use Rattle.bands.specs.Bands.{bandsOf}
-use Rattle.cohort.specs.Held.{Enrolled}
+use Rattle.placements.specs.Placing.{remainder}
+use Rattle.placements.specs.Bands.{bandsOf}
+use Rattle.held.specs.Held.{Enrolled}
 use Rattle.listing.specs.Lines.{cohortLine, studentLine, refusedLine}
-use Rattle.report.specs.Report.{aggregatesOf, linesOf, listed as listing}
+use Rattle.printed.specs.Report.{aggregatesOf, linesOf, listed as listing}
 
 -- students 5, 6, 7 and 8, of whom 6 is refused, and the others have 5.00, 3.00 and 4.00
 abbrev enrolled : ℕ → Enrolled

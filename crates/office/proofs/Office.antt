@@ -19,23 +19,23 @@ use Rattle.scores.specs.Rows.{slotsFrom, stored}
 use Rattle.seek.specs.Sets.{onesFrom, sumOver, countOver}
 use Rattle.results.specs.Scoring.{scoreFound, score as scoreOf}
 use Rattle.results.specs.Counting.{usable, usableAt, showsEnglish, kept}
-use Rattle.bestset.specs.Rules.{wrong, unscored, repeated}
-use Rattle.bestset.specs.Promise.{aggregateOf}
-use Rattle.bestset.specs.Computed.{admissible, earlier, chosen}
-use Rattle.bestset.specs.Examples.{generalRow, oneScore, catalogue, table}
+use Rattle.sets.specs.Rules.{wrong, unscored, repeated}
+use Rattle.sets.specs.Promise.{aggregateOf}
+use Rattle.sets.specs.Computed.{admissible, earlier, chosen}
+use Rattle.sets.specs.Examples.{generalRow, oneScore, catalogue, table}
 use Rattle.curve.specs.Population.{S, E}
 use Rattle.curve.specs.Curve.{lower, upper, entry, tableOf}
 use Rattle.ranks.specs.Ranking.{ranksOf, percentilesOf}
 use Rattle.tally.specs.Places.{places, bandUpTo}
-use Rattle.bands.specs.Placing.{remainder}
-use Rattle.bands.specs.Bands.{bandsOf}
+use Rattle.placements.specs.Placing.{remainder}
+use Rattle.placements.specs.Bands.{bandsOf}
 use Rattle.fields.specs.Fields.{Piece, whole, piecesOf}
-use Rattle.cohort.specs.Taking.{newRow}
-use Rattle.cohort.specs.Judging.{holdsId}
-use Rattle.cohort.specs.Reading.{Reader, opened, after, readAll, ended, body, reading}
+use Rattle.held.specs.Taking.{newRow}
+use Rattle.held.specs.Judging.{holdsId}
+use Rattle.held.specs.Reading.{Reader, opened, after, readAll, ended, body, reading}
 use Rattle.listing.specs.Inner.{padded}
 use Rattle.listing.specs.Text.{digitsIn, digits, atar}
-use Rattle.report.specs.Report.{outcome, aggregatesOf, linesOf, textOfOutcome, textOf}
+use Rattle.printed.specs.Report.{outcome, aggregatesOf, linesOf, textOfOutcome, textOf}
 use Rattle.office.specs.Office.{row, opening, closing, office, held, listing}
 use Rattle.office.proofs.Ahead.{ahead, as-ahead}
 use Rattle.office.proofs.Scored.{score, scores, blank, at, row-read}

@@ -22,8 +22,8 @@ use Rattle.scores.specs.Rows.{slotsFrom, stored}
 use Rattle.scores.proofs.Filling.{found-there}
 use Rattle.scores.proofs.Rowed.{stored-slot}
 use Rattle.fields.specs.Fields.{Field, Piece, whole}
-use Rattle.cohort.proofs.Accepts.{score-accepted}
-use Rattle.cohort.specs.Reading.{Reader, passed, fieldRules, after, readAll}
+use Rattle.held.proofs.Accepts.{score-accepted}
+use Rattle.held.specs.Reading.{Reader, passed, fieldRules, after, readAll}
 
 -- subject, slot, score: the value of a field, and the field
 abbrev value : ℕ → ℕ → ℕ → List ℕ

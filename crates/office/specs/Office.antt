@@ -5,10 +5,10 @@ use Rattle.paper.specs.Limits.{scoreParts}
 use Rattle.paper.specs.Letters.{letterA, letterB}
 use Rattle.paper.specs.Bytes.{longBytes}
 use Rattle.results.specs.Results.{Student}
-use Rattle.bestset.specs.Examples.{catalogue, table, seven, eight, nine, eleven}
+use Rattle.sets.specs.Examples.{catalogue, table, seven, eight, nine, eleven}
 use Rattle.curve.specs.Examples.{aged17}
 use Rattle.fields.specs.Fields.{fieldBytes}
-use Rattle.cohort.specs.Held.{Enrolled, Held}
+use Rattle.held.specs.Held.{Enrolled, Held}
 
 -- the bytes of a field, before the rest
 abbrev pub field : ℕ → List ℕ → List ℕ → List ℕ

@@ -14,21 +14,26 @@ use Rattle.curve.specs.Population.{Y, rate}
 use Rattle.curve.specs.Curve.{tableOf}
 use Rattle.curve.proofs.Means.{counted}
 use Rattle.listing.specs.Lines.{fileLine}
-use Rattle.cohort.specs.Held.{Enrolled, Held, nothing, idsOf, countsOf, resultsOf}
-use Rattle.cohort.specs.Meaning.{Each, FewResults, Sound}
-use Rattle.cohort.specs.Reading.{reading}
-use Rattle.cohort.specs.Promise.{said, Lent, lent, written, summaryOf, Promise}
+use Rattle.held.specs.Held.{Enrolled, Held, nothing, idsOf, countsOf, resultsOf}
+use Rattle.held.specs.Meaning.{Each, FewResults, Sound}
+use Rattle.held.specs.Reading.{reading}
+use Rattle.held.specs.Promise.{said, Lent, lent, written, summaryOf, Promise}
 use Rattle.cohort.specs.Inner.{Sized}
-use Rattle.cohort.specs.declared.Summary.{Summary}
-use Rattle.cohort.specs.declared.Answer.{Answer}
-use Rattle.cohort.specs.declared.Answer.the-variants.{Refused}
-use Rattle.cohort.proofs.Holding.{sound}
+use Rattle.held.specs.declared.Summary.{Summary}
+use Rattle.held.specs.declared.Answer.{Answer}
+use Rattle.held.specs.declared.Answer.the-variants.{Refused}
+use Rattle.held.proofs.Holding.{sound}
 use Rattle.paper.proofs.Parted.{take-start, laid-start, length-laid}
-use Rattle.cohort.proofs.Pupils.{length-ids, length-counts}
-use Rattle.report.specs.Sizes.{textBytes}
-use Rattle.report.specs.Report.{outcome, listed, textOfOutcome, textOf}
-use Rattle.report.specs.Inner.{studentsIn, Read}
-use Rattle.report.proofs.Standing.{stand}
+use Rattle.held.proofs.Pupils.{length-ids, length-counts}
+use Rattle.printed.specs.Sizes.{textBytes}
+use Rattle.printed.specs.Report.{outcome, listed, textOfOutcome, textOf}
+use Rattle.printed.specs.Promise.{Promise as Printed}
+use Rattle.printed.specs.declared.Answer.the-variants.{Accepted}
+use Rattle.printed.proofs.Promised.{room}
+use Rattle.outcomes.specs.Inner.{studentsIn}
+use Rattle.lines.specs.Inner.{Put}
+use Rattle.report.specs.Inner.{Read}
+use Rattle.outcomes.proofs.Standing.{stand}
 
 -- a refused file
 abbrev faultLine : Outcome Summary → List ℕ
@@ -149,3 +154,10 @@ module _ (file : List ℕ) (old new : Lent) (v : Summary) (b : Sized old) (w : T
       let so-told = w .values in
       (λ i. listed (outcome (catalogue-is i) (table-is i) (so-told i .year)) (tableOf (so-told i .rate)) (so-told i .population) (students-are i))
       ∙ sym (ap textOfOutcome (w .reads))
+
+-- so a text that is put as the file's is what is promised
+module _ (file before : List ℕ) where
+  pub text-put : (after : List ℕ) (n : ℕ) → length before ≡ textBytes → Put before after 0 n (textOf file) → Printed file before (Accepted n) after
+  text-put after n l p =
+      let z : n ≡ length (textOf file) = omega (arith, p .ends) in
+      record { says = ap accepted z ∙ sym (room file before l); leaves = p .content }

@@ -1,16 +1,2 @@
-pub mod Accepting
-pub mod Best
-pub mod Bounded
-pub mod ByHand
-pub mod ByHandListing
-pub mod Collecting
-pub mod Demands
-pub mod Few
 pub mod Filed
 pub mod Noting
-pub mod Lengths
-pub mod Lining
-pub mod Promised
-pub mod Puts
-pub mod Standing
-pub mod Whole

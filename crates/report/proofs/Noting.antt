@@ -13,16 +13,19 @@ use Rattle.paper.specs.Lists.{pick}
 use Rattle.paper.specs.Rulings.{Outcome, accepted, refused, numberOf, numberIn, placeIn}
 use Rattle.paper.proofs.Ruled.{Refusing, some-number}
 use Rattle.results.specs.Results.{student}
-use Rattle.bestset.specs.Promise.{Values}
-use Rattle.bestset.proofs.Meeting.{computed-tabled}
+use Rattle.sets.specs.Promise.{Values}
+use Rattle.sets.proofs.Meeting.{computed-tabled}
 use Rattle.ranks.proofs.Promised.{computed as ranks-computed}
-use Rattle.bands.specs.Placing.{remainder}
-use Rattle.bands.proofs.Placed.{best-exists}
+use Rattle.placements.specs.Placing.{remainder}
+use Rattle.placements.proofs.Placed.{best-exists}
 use Rattle.listing.specs.Lines.{cohortLine, studentLine, refusedLine}
-use Rattle.cohort.specs.Held.{Enrolled, idsOf}
-use Rattle.report.specs.Report.{Columns, columnsOf, outcome, withAggregate, aggregatesOf, lineOf, afterOne, linesOf, listed}
-use Rattle.report.specs.Inner.{studentsIn, numbersOf, placesOf, Noted, lineNoted, afterNoted, linesNoted, eligibleNoted, columns, listedNoted}
-use Rattle.report.proofs.Lining.{eligible-least}
+use Rattle.held.specs.Held.{Enrolled, idsOf}
+use Rattle.printed.specs.Report.{Columns, columnsOf, outcome, withAggregate, aggregatesOf, lineOf, afterOne, linesOf, listed}
+use Rattle.printed.specs.InnerCohorts.{columns}
+use Rattle.outcomes.specs.Inner.{studentsIn, numbersOf, placesOf, Noted}
+use Rattle.lines.specs.Inner.{lineNoted, afterNoted, linesNoted, eligibleNoted}
+use Rattle.report.specs.Inner.{listedNoted}
+use Rattle.lines.proofs.Lining.{eligible-least}
 
 -- what is noted of a student tells its line and whether it is eligible
 line-told : (c : Columns) (j id : ℕ) (o : Outcome Values) → Refusing o → lineNoted c j id (numberIn o) (placeIn o) ≡ lineOf c j id o

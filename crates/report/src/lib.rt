@@ -2,11 +2,13 @@
 ghost use mathlib.Core.Path.{_≡_};
 ghost use lib.ListN.{length};
 ghost use Rattle.curve.specs.Curve.{tableOf};
-ghost use Rattle.report.specs.Sizes.{textBytes};
-ghost use Rattle.report.specs.Report.{outcome, listed, textOf};
-ghost use Rattle.report.specs.Inner.{studentsIn, listedNoted, Ready, Read, Put};
-ghost use Rattle.report.specs.Promise.{Promise};
-use cohort::Summary;
+ghost use Rattle.printed.specs.Sizes.{textBytes};
+ghost use Rattle.printed.specs.Report.{outcome, listed, textOf};
+ghost use Rattle.outcomes.specs.Inner.{studentsIn};
+ghost use Rattle.lines.specs.Inner.{Put};
+ghost use Rattle.report.specs.Inner.{listedNoted, Ready, Read};
+ghost use Rattle.printed.specs.Promise.{Promise};
+use held::Summary;
 use paper::limits::CATALOGUE_BYTES;
 use paper::limits::ENTRY_BYTES;
 use paper::limits::FIGURE_COUNT;
@@ -15,17 +17,9 @@ use paper::limits::RESULTS_BYTES;
 use paper::limits::ROW_BYTES;
 use paper::limits::TABLE_BYTES;
 use paper::refusal::Refusal;
+use printed::Answer;
 
-mod lines;
 mod placing;
-mod students;
-mod writing;
-
-// The length of the text, or what is wrong.
-pub enum Answer {
-    Accepted { length: usize },
-    Refused(Refusal),
-}
 
 // The bytes of a lent text buffer.
 pub const TEXT_BYTES: usize = 65536;
@@ -56,7 +50,7 @@ fn list_noted(
         &mut bands[..n],
     );
     let line = listing::cohort_line(ids.len() as u32, n as u32, remainder as u32);
-    let start = writing::append(text, 0, line);
+    let start = lines::writing::append(text, 0, line);
     let rest = &mut text[start..];
     start
         + lines::lines(
@@ -90,7 +84,7 @@ fn list_read(
     let year = summary.year as u64;
     let mut aggregates = [0u32; MOST_STUDENTS];
     let mut places = [0u8; MOST_STUDENTS];
-    let n = students::collect(
+    let n = outcomes::collect(
         catalogue,
         table,
         year,
@@ -132,8 +126,8 @@ fn list_file(file: &[u8], text: &mut [u8]) -> usize
         &mut results,
     );
     match read {
-        cohort::Answer::Refused(x) => writing::append(text, 0, listing::file_line(x)),
-        cohort::Answer::Accepted(summary) => {
+        held::Answer::Refused(x) => lines::writing::append(text, 0, listing::file_line(x)),
+        held::Answer::Accepted(summary) => {
             let c = ENTRY_BYTES * summary.subjects;
             let t = ROW_BYTES * summary.subjects;
             let students = summary.students;

@@ -1,13 +1,13 @@
 // The ranks, percentiles and bands of the eligible.
 ghost use mathlib.Core.Path.{_≡_};
 ghost use Rattle.curve.specs.Curve.{tableOf};
-ghost use Rattle.bands.specs.Placing.{remainder};
-ghost use Rattle.report.specs.Report.{columnsOf};
-ghost use Rattle.report.specs.Inner.{columns, Placeable};
+ghost use Rattle.placements.specs.Placing.{remainder};
+ghost use Rattle.printed.specs.Report.{columnsOf};
+ghost use Rattle.printed.specs.InnerCohorts.{columns, Placeable};
 use paper::limits::BAND_COUNT;
 
 // Ranks the eligible and places them in bands, and answers the remainder. The table is drawn and neither call refuses: table-drawn,
-// ranks-accept and bands-accept in proofs/Accepting.antt.
+// ranks-accept and bands-accept in printed/proofs/Accepting.antt.
 pub(crate) fn place(
     aggregates: &[u32],
     rate: u32,
@@ -25,7 +25,7 @@ pub(crate) fn place(
     ranks::ranks(aggregates, ranks, percentiles);
     let placed = bands::place(aggregates, &table, population, bands);
     let mut left = 0;
-    if let bands::Answer::Accepted { remainder } = placed {
+    if let placements::Answer::Accepted { remainder } = placed {
         left = remainder;
     }
     left

@@ -4,5 +4,4 @@ pub mod participation;
 pub mod placing;
 pub mod ranking;
 pub mod scoring;
-pub mod telling;
 pub mod text;

@@ -1,41 +1,8 @@
 // Bands, by direct count, and in one call with the ranks.
-ghost use mathlib.Core.Path.{_≡_};
-ghost use Prim.Native.Nat.{_≤_};
-ghost use Rattle.paper.specs.Limits.{mostTallied};
-ghost use Rattle.paper.specs.Rulings.{valuesOr};
-ghost use Rattle.bands.specs.Promise.{said, lent};
-ghost use Rattle.shtegomir.specs.Placing.{form, DirectCalled, TogetherCalled};
-use crate::telling::Told;
-use crate::telling::nothing_wrong;
-use crate::telling::tell;
-use bands::Answer;
-
-// Refused: the remainder is 0. Laid out as the header's flat shtegomir_placed.
-#[repr(C)]
-pub struct Placed {
-    pub told: Told,
-    pub remainder: u32,
-}
-
-// No more are left over than there are students.
-fn flatten(answer: Answer) -> Placed
-    requires { ⌜ valuesOr 0 (said answer) ≤ mostTallied ⌝ }
-    ensures { λ r. ⌜ r ≡ form answer ⌝ }
-{
-    match answer {
-        Answer::Accepted { remainder } => {
-            let told = nothing_wrong();
-            Placed {
-                told,
-                remainder: remainder as u32,
-            }
-        }
-        Answer::Refused(x) => {
-            let told = tell(x);
-            Placed { told, remainder: 0 }
-        }
-    }
-}
+ghost use Rattle.placements.specs.Promise.{lent};
+ghost use Rattle.told.specs.Placing.{DirectCalled, TogetherCalled};
+use told::placing::Placed;
+use told::placing::flatten;
 
 #[no_mangle]
 pub extern "C" fn shtegomir_place_direct(

@@ -1,20 +1,7 @@
 // First scaled scores of a subject, from counts.
-ghost use mathlib.Core.Path.{_≡_};
-ghost use Rattle.shtegomir.specs.Scoring.{form, ScoresCalled};
-use crate::telling::Told;
-use crate::telling::nothing_wrong;
-use crate::telling::tell;
-use initial::Answer;
-
-// There is nothing more to tell: the header's shtegomir_scored is refusal and place alone.
-fn flatten(answer: Answer) -> Told
-    ensures { λ r. ⌜ r ≡ form answer ⌝ }
-{
-    match answer {
-        Answer::Accepted => nothing_wrong(),
-        Answer::Refused(x) => tell(x),
-    }
-}
+ghost use Rattle.told.specs.Scoring.{ScoresCalled};
+use told::scoring::flatten;
+use told::telling::Told;
 
 #[no_mangle]
 pub extern "C" fn shtegomir_first_scores(

@@ -1,6 +1,5 @@
 // The subjects of the paper's example, and Geography; their scores; students' results.
 use crate::saying;
-use bestset::Answer;
 use paper::limits::ENTRY_BYTES;
 use paper::limits::RESULT_BYTES;
 use paper::limits::ROW_BYTES;
@@ -9,6 +8,7 @@ use paper::limits::SLOTS;
 use scores::rows;
 use scores::slots::Raw;
 use scores::slots::Scaled;
+use sets::Answer;
 
 // Places in the catalogue.
 pub(crate) const ENGLISH: u8 = 0;

@@ -2,11 +2,11 @@
 use crate::pupils;
 use crate::pupils::Results;
 use crate::saying;
-use bands::Answer;
 use curve::Answer as Curved;
 use paper::limits::BAND_COUNT;
 use paper::limits::MOST_ENTRY;
 use paper::limits::TALLY_COUNT;
+use placements::Answer;
 
 // Student 7, whom five highest first, rules after, refuses.
 fn seven() -> Results {

@@ -11,8 +11,8 @@ use Rattle.scores.specs.Rows.{slotsFrom}
 use Rattle.seek.specs.Sets.{onesFrom, sumOver}
 use Rattle.results.specs.Scoring.{scoreFound, score}
 use Rattle.results.specs.Results.{Student}
-use Rattle.bestset.specs.Examples.{seven, eight, nine, eleven, table3}
-use Rattle.bestset.specs.Promise.{totalOf}
+use Rattle.sets.specs.Examples.{seven, eight, nine, eleven, table3}
+use Rattle.sets.specs.Promise.{totalOf}
 use Rattle.curve.specs.Examples.{aged17}
 use Rattle.worked.specs.Example.{Example, best-set_by_is_, figures_give_, rate_band_has_, aggregates_by_of_get_leaving_, cohort_by_and_of_have_rank_get_leaving_}
 use Rattle.worked.specs.Worked.{six, from2012, from2011, english1990, again2021, sixth, sum0050, sum0049, sum0149, sum0150, at100, over100, examples}

@@ -20,11 +20,11 @@ use Rattle.seek.specs.Sets.{onesFrom, sumOver, countOver}
 use Rattle.results.specs.Results.{Student}
 use Rattle.results.specs.Scoring.{scoreFound, score}
 use Rattle.results.specs.Counting.{usable, usableAt, showsEnglish, kept}
-use Rattle.bestset.specs.Rules.{wrong, unscored, repeated}
-use Rattle.bestset.specs.Promise.{aggregateOf, Values as Best}
-use Rattle.bestset.specs.declared.Answer.{Answer as BestAnswer}
-use Rattle.bestset.specs.Computed.{admissible, earlier, chosen, computed}
-use Rattle.bestset.proofs.Meeting.{said-only}
+use Rattle.sets.specs.Rules.{wrong, unscored, repeated}
+use Rattle.sets.specs.Promise.{aggregateOf, Values as Best}
+use Rattle.sets.specs.declared.Answer.{Answer as BestAnswer}
+use Rattle.sets.specs.Computed.{admissible, earlier, chosen, computed}
+use Rattle.sets.proofs.Meeting.{said-only}
 use Rattle.ranks.specs.Ranking.{ranksOf}
 use Rattle.curve.specs.Population.{S, E}
 use Rattle.curve.specs.Curve.{lower, upper, entry, tableOf}
@@ -34,13 +34,13 @@ use Rattle.curve.proofs.Promised.{table-ruled}
 use Rattle.tally.specs.Places.{places, bandUpTo}
 use Rattle.tally.specs.Examples.{full}
 use Rattle.tally.proofs.Reaching.{none-fit}
-use Rattle.bands.specs.declared.Answer.{Answer as BandsAnswer}
-use Rattle.bands.specs.Placing.{remainder}
-use Rattle.bands.specs.Bands.{bandsOf}
-use Rattle.bands.specs.Promise.{directRules, togetherRules, Lent, TogetherPromise, said as saidBands}
-use Rattle.bands.specs.Given.{LentFor}
-use Rattle.bands.proofs.ByHand.{full-within}
-use Rattle.bands.proofs.Promised.{tells, owes, together-owes}
+use Rattle.placements.specs.declared.Answer.{Answer as BandsAnswer}
+use Rattle.placements.specs.Placing.{remainder}
+use Rattle.placements.specs.Bands.{bandsOf}
+use Rattle.placements.specs.Promise.{directRules, togetherRules, Lent, TogetherPromise, said as saidBands}
+use Rattle.placements.specs.Given.{LentFor}
+use Rattle.placements.proofs.ByHand.{full-within}
+use Rattle.placements.proofs.Promised.{tells, owes, together-owes}
 use Rattle.worked.specs.Called.{Rated, Placed, alone, withTable, directly, ranked}
 use Rattle.worked.specs.Example.{counted, atRate, atarOf, aggregateIn, Answers, Example, best-set_by_is_, figures_give_, rate_band_has_, aggregates_by_of_get_leaving_, cohort_by_and_of_have_rank_get_leaving_, Holds, All}
 use Rattle.worked.specs.Worked.{examples}

@@ -6,9 +6,9 @@ use lib.ListN.{length}
 use Rattle.paper.specs.Limits.{bandCount}
 use Rattle.curve.specs.Promise.{PopulationPromise, Promise as CurvePromise}
 use Rattle.curve.specs.declared.Answer.{Answer as CurveAnswer}
-use Rattle.bands.specs.Promise.{Promise as BandsPromise, Lent, lent, TogetherPromise}
-use Rattle.bands.specs.Given.{LentFor}
-use Rattle.bands.specs.declared.Answer.{Answer as BandsAnswer}
+use Rattle.placements.specs.Promise.{Promise as BandsPromise, Lent, lent, TogetherPromise}
+use Rattle.placements.specs.Given.{LentFor}
+use Rattle.placements.specs.declared.Answer.{Answer as BandsAnswer}
 
 -- Y and r of ten figures: alone, or with the table
 pub data Rated (figures : List ℕ) (r : CurveAnswer) : Type 0 where

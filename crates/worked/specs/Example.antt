@@ -6,14 +6,14 @@ use lib.ListN.{length, getD}
 use Rattle.paper.specs.Limits.{bandCount, bandStep}
 use Rattle.paper.specs.Rulings.{Outcome, accepted, valuesOr}
 use Rattle.results.specs.Results.{Student}
-use Rattle.bestset.specs.Promise.{Promise as BestPromise, said as saidBest, Values as Best}
-use Rattle.bestset.specs.declared.Answer.{Answer as BestAnswer}
+use Rattle.sets.specs.Promise.{Promise as BestPromise, said as saidBest, Values as Best}
+use Rattle.sets.specs.declared.Answer.{Answer as BestAnswer}
 use Rattle.curve.specs.Promise.{Promise as CurvePromise, said as saidCurve, Values as Population}
 use Rattle.curve.specs.declared.Answer.{Answer as CurveAnswer}
 use Rattle.curve.specs.Examples.{aged17}
-use Rattle.bands.specs.Promise.{said as saidBands, Lent, TogetherPromise}
-use Rattle.bands.specs.Given.{LentFor}
-use Rattle.bands.specs.declared.Answer.{Answer as BandsAnswer}
+use Rattle.placements.specs.Promise.{said as saidBands, Lent, TogetherPromise}
+use Rattle.placements.specs.Given.{LentFor}
+use Rattle.placements.specs.declared.Answer.{Answer as BandsAnswer}
 use Rattle.worked.specs.Called.{Rated, Placed}
 
 -- 360 · 00 is the paper's 360.00, in hundredths

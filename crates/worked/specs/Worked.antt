@@ -3,7 +3,7 @@ use mathlib.Core.List.{List, [], _∷_}
 use Rattle.paper.specs.Letters.{letterB, letterC}
 use Rattle.paper.specs.Rulings.{refused, _at_}
 use Rattle.results.specs.Results.{Student, student}
-use Rattle.bestset.specs.Examples.{seven, eight, nine, eleven, table, result, catalogue2, table2, three, mature, renewed, longAgo, table3, fine}
+use Rattle.sets.specs.Examples.{seven, eight, nine, eleven, table, result, catalogue2, table2, three, mature, renewed, longAgo, table3, fine}
 use Rattle.curve.specs.Examples.{aged17}
 use Rattle.tally.specs.Examples.{full}
 use Rattle.worked.specs.Example.{_·_, chosen, counted, Example, best-set_by_is_, figures_give_, rate_band_has_, aggregates_by_of_get_leaving_, cohort_by_and_of_have_rank_get_leaving_}

@@ -1,8 +1,8 @@
-use Rattle.bands.proofs.Promised.{direct-ready}
-use Rattle.bands.proofs.Placed.{best-exists}
-use Rattle.bands.specs.declared.Answer.the-variants.{Refused}
-use Rattle.bands.specs.Placing.{remainder}
-use Rattle.bands.specs.Promise.{directRules, Promise}
+use Rattle.placements.proofs.Promised.{direct-ready}
+use Rattle.placements.proofs.Placed.{best-exists}
+use Rattle.placements.specs.declared.Answer.the-variants.{Refused}
+use Rattle.placements.specs.Placing.{remainder}
+use Rattle.placements.specs.Promise.{directRules, Promise}
 use Rattle.paper.proofs.Screens.{screened-refused, screened-kept, screened-clear}
 use Rattle.paper.specs.Rulings.{Rule, accepted}
 use mathlib.Core.List.{List}
@@ -11,7 +11,7 @@ use lib.ListN.{length}
 use borrow.Author.Needs.{needs}
 use Rattle.bands.proofs.place.Statement.{statement}
 use Rattle.bands.proofs.place.Tie as tie
-use Rattle.bands.proofs.direct.place_each.Reads as place-each-reads
+use Rattle.direct.proofs.place_each.Reads as place-each-reads
 use Rattle.bands.proofs.screening.direct.Reads as direct-reads
 
 abbrev rules : tie.After-direct → List Rule

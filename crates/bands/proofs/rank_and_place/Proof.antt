@@ -4,14 +4,14 @@ use mathlib.Core.List.{List}
 use lib.ListN.{length}
 use Rattle.paper.specs.Rulings.{Rule, accepted}
 use Rattle.paper.proofs.Screens.{screened-refused, screened-kept, screened-clear}
-use Rattle.bands.specs.Placing.{remainder}
-use Rattle.bands.specs.Promise.{Lent, lent, togetherRules, TogetherPromise}
-use Rattle.bands.specs.declared.Answer.the-variants.{Refused}
-use Rattle.bands.proofs.Promised.{together-holds, together-ready}
+use Rattle.placements.specs.Placing.{remainder}
+use Rattle.placements.specs.Promise.{Lent, lent, togetherRules, TogetherPromise}
+use Rattle.placements.specs.declared.Answer.the-variants.{Refused}
+use Rattle.placements.proofs.Promised.{together-holds, together-ready}
 use borrow.Author.Needs.{needs}
 use Rattle.bands.proofs.rank_and_place.Statement.{statement}
 use Rattle.bands.proofs.rank_and_place.Tie as tie
-use Rattle.bands.proofs.together.fill.Reads as fill-reads
+use Rattle.together.proofs.fill.Reads as fill-reads
 use Rattle.bands.proofs.screening.together.Reads as together-reads
 
 -- what is given where it is screened

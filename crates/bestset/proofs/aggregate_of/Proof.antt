@@ -1,5 +1,5 @@
-use Rattle.bestset.proofs.Rounding.{rounded-most}
-use Rattle.bestset.specs.Promise.{aggregateOf}
+use Rattle.sets.proofs.Rounding.{rounded-most}
+use Rattle.sets.specs.Promise.{aggregateOf}
 use Rattle.paper.specs.Rounding.{nearest}
 use Rattle.paper.specs.Units.{hundredths}
 use Rattle.paper.specs.Limits.{scoreParts}

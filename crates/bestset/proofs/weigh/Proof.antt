@@ -1,10 +1,10 @@
 use Rattle.bestset.proofs.Clashing.{TestOf, testOf, test-of}
 use Rattle.bestset.proofs.Usable.{none-shown, some-shown}
 use Rattle.bestset.specs.declared.marks.Reading.the-variants.{All}
-use Rattle.bestset.specs.declared.marks.Masks.{Masks}
-use Rattle.bestset.specs.InnerPairs.{AllCompared}
+use Rattle.clashes.specs.declared.masks.Masks.{Masks}
+use Rattle.clashes.specs.InnerPairs.{AllCompared}
 use Rattle.bestset.specs.InnerMarks.{ReadAs, outcome}
-use Rattle.bestset.specs.Promise.{WellFormed, Answered}
+use Rattle.sets.specs.Promise.{WellFormed, Answered}
 use Rattle.seek.specs.InnerTest.{valueAt}
 use Rattle.paper.proofs.Promised.{saying}
 use Rattle.bestset.proofs.Bridge.{promise-wrong, promise-again, well-formed, promise-english, answered-ruled, sought, found-answered}
@@ -19,7 +19,7 @@ use borrow.Author.Needs.{needs}
 use Rattle.bestset.proofs.weigh.Statement.{statement}
 use Rattle.bestset.proofs.weigh.Tie as tie
 use Rattle.bestset.proofs.marks.read_all.Reads as read-all-reads
-use Rattle.bestset.proofs.pairs.compare.Reads as compare-reads
+use Rattle.clashes.proofs.pairs.compare.Reads as compare-reads
 use Rattle.bestset.proofs.told.Reads as told-reads
 use Rattle.seek.proofs.search.search.Reads as search-reads
 

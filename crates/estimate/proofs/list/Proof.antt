@@ -1,5 +1,5 @@
-use Rattle.report.specs.Sizes.{textBytes}
-use Rattle.report.proofs.Promised.{length-fits}
+use Rattle.printed.specs.Sizes.{textBytes}
+use Rattle.printed.proofs.Promised.{length-fits}
 use lib.Seq.{length-take-le}
 use lib.ListN.{length, replicate, length-replicate}
 use mathlib.Core.Path.{_≡_, sym, _∙_}

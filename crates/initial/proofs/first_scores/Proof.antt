@@ -1,8 +1,8 @@
-use Rattle.initial.proofs.Slotting.{asked-most}
-use Rattle.initial.specs.Counts.{total}
-use Rattle.initial.specs.Row.{asked}
-use Rattle.initial.specs.Promise.{ruling}
-use Rattle.initial.proofs.Written.{length-for}
+use Rattle.firsts.proofs.Slotting.{asked-most}
+use Rattle.firsts.specs.Counts.{total}
+use Rattle.firsts.specs.Row.{asked}
+use Rattle.firsts.specs.Promise.{ruling}
+use Rattle.firsts.proofs.Written.{length-for}
 use Rattle.scores.specs.Scores.{rows}
 use Rattle.scores.specs.Rows.{withRow}
 use Rattle.scores.proofs.Rowed.{lent-length, row-put}

@@ -1,9 +1,9 @@
-use Rattle.report.proofs.Puts.{shows-own}
+use Rattle.lines.proofs.Puts.{shows-own}
 use Rattle.report.proofs.Filed.{refused-text, Taken, zeros, zeros-sized, taken, few-subjects, few-students, sized, ready, accepted-text}
-use Rattle.report.specs.Inner.{Put}
+use Rattle.lines.specs.Inner.{Put}
 use Rattle.cohort.specs.Inner.{Sized}
-use Rattle.cohort.specs.declared.Summary.{Summary}
-use Rattle.cohort.specs.Promise.{said, Lent, lent}
+use Rattle.held.specs.declared.Summary.{Summary}
+use Rattle.held.specs.Promise.{said, Lent, lent}
 use Rattle.paper.specs.Limits.{entryBytes, rowBytes, mostSubjects, mostStudents}
 use lib.Seq.{length-take-le}
 use mathlib.Core.Path.{sym, ap, subst, _∙_}
@@ -15,7 +15,7 @@ use Rattle.report.proofs.list_file.Tie as tie
 use Rattle.cohort.proofs.read.Reads as read-reads
 use Rattle.listing.proofs.file_line.Reads as file-line-reads
 use Rattle.report.proofs.list_read.Reads as list-read-reads
-use Rattle.report.proofs.writing.append.Reads as append-reads
+use Rattle.lines.proofs.writing.append.Reads as append-reads
 
 -- the places of the proof: the start from the reading, and the reading of an accepted file
 abbrev begun : tie.After-read → tie.Start

@@ -1,9 +1,10 @@
-use Rattle.report.proofs.Puts.{put-more, put-part, shows-own, shown-short}
+use Rattle.lines.proofs.Puts.{put-more, put-part, shows-own, shown-short}
 use Rattle.report.proofs.Noting.{front-lines}
-use Rattle.report.proofs.Few.{remainder-within}
-use Rattle.report.specs.Inner.{columns, linesNoted, Put}
+use Rattle.printed.proofs.Few.{remainder-within}
+use Rattle.lines.specs.Inner.{linesNoted, Put}
+use Rattle.printed.specs.InnerCohorts.{columns}
 use Rattle.listing.specs.Lines.{cohortLine, lineBytes, shown}
-use Rattle.bands.specs.Placing.{remainder}
+use Rattle.placements.specs.Placing.{remainder}
 use Rattle.curve.specs.Curve.{tableOf}
 use Rattle.paper.specs.Limits.{mostStudents}
 use lib.Seq.{length-take-le}
@@ -17,9 +18,9 @@ use borrow.Author.Needs.{needs}
 use Rattle.report.proofs.list_noted.Statement.{statement}
 use Rattle.report.proofs.list_noted.Tie as tie
 use Rattle.listing.proofs.cohort_line.Reads as cohort-line-reads
-use Rattle.report.proofs.lines.lines.Reads as lines-reads
+use Rattle.lines.proofs.lines.Reads as lines-reads
 use Rattle.report.proofs.placing.place.Reads as place-reads
-use Rattle.report.proofs.writing.append.Reads as append-reads
+use Rattle.lines.proofs.writing.append.Reads as append-reads
 
 -- the places of the proof: the start from each loan and from the placing; the placing from its end and from the first line that was put; that line from the end
 abbrev from-ranks : tie.After-ranks → tie.Start

@@ -1,6 +1,7 @@
 use Rattle.report.proofs.Noting.{eligible-are, listed-told}
-use Rattle.report.proofs.Bounded.{collected-cohort}
-use Rattle.report.specs.Inner.{listedNoted, Put}
+use Rattle.outcomes.proofs.Bounded.{collected-cohort}
+use Rattle.lines.specs.Inner.{Put}
+use Rattle.report.specs.Inner.{listedNoted}
 use Rattle.curve.specs.Curve.{tableOf}
 use Rattle.paper.specs.Limits.{mostStudents}
 use lib.Seq.{length-take-le, take-at}
@@ -13,7 +14,7 @@ use borrow.Author.Needs.{needs}
 use Rattle.report.proofs.list_read.Statement.{statement}
 use Rattle.report.proofs.list_read.Tie as tie
 use Rattle.report.proofs.list_noted.Reads as list-noted-reads
-use Rattle.report.proofs.students.collect.Reads as collect-reads
+use Rattle.outcomes.proofs.collect.Reads as collect-reads
 
 -- a part of a column for each student
 part : (xs : List ℕ) → length xs ≤ mostStudents → length (take (length xs) (replicate {A = ℕ} mostStudents 0)) ≡ length xs

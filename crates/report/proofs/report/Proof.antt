@@ -3,8 +3,8 @@ use mathlib.Core.Path.{_≡_, refl}
 use lib.ListN.{length}
 use borrow.Author.Needs.{needs}
 use borrow.Author.Tests.{ne-eqb}
-use Rattle.report.specs.Sizes.{textBytes}
-use Rattle.report.proofs.Promised.{text-put}
+use Rattle.printed.specs.Sizes.{textBytes}
+use Rattle.report.proofs.Filed.{text-put}
 use Rattle.report.proofs.report.Statement.{statement}
 use Rattle.report.proofs.report.Tie as tie
 use Rattle.report.proofs.list_file.Reads as list-file-reads

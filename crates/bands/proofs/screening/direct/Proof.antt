@@ -1,4 +1,4 @@
-use Rattle.bands.specs.Promise.{sizeRules, cohortRules}
+use Rattle.placements.specs.Promise.{sizeRules, cohortRules}
 use Rattle.paper.proofs.Screens.{screened-first, screened-next}
 use Rattle.paper.specs.Limits.{mostStudents}
 use Rattle.paper.specs.Rulings.{Rule}

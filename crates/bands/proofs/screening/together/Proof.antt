@@ -1,4 +1,4 @@
-use Rattle.bands.specs.Promise.{sizeRules, lentRules, cohortRules}
+use Rattle.placements.specs.Promise.{sizeRules, lentRules, cohortRules}
 use Rattle.paper.proofs.Screens.{screened-first, screened-next}
 use Rattle.paper.specs.Limits.{mostTallied}
 use Rattle.paper.specs.Rulings.{Rule, judged}

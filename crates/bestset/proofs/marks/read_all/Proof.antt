@@ -1,6 +1,6 @@
 use Rattle.bestset.proofs.Marking.{masked-none, masked-one, read-none, read-next}
 use Rattle.bestset.specs.InnerMarks.{Masked, ByPosition, withOne}
-use Rattle.bestset.specs.Rules.{unscored, resultRules, turnRules}
+use Rattle.sets.specs.Rules.{unscored, resultRules, turnRules}
 use Rattle.results.specs.Scoring.{worth, score, scoreAt, ownIdentity, identityAt}
 use Rattle.results.specs.Results.{heldIn, Student, student, held, result}
 use Rattle.results.specs.declared.reading.Result.{Result}

@@ -1,8 +1,8 @@
 use borrow.Author.Needs.{needs}
 use Rattle.bestset.proofs.marks.with_one.Statement.{statement}
 use Rattle.bestset.proofs.marks.with_one.Tie as tie
-use Rattle.bestset.proofs.marks.both.Reads as both-reads
-use Rattle.bestset.proofs.marks.marked.Reads as marked-reads
+use Rattle.clashes.proofs.masks.both.Reads as both-reads
+use Rattle.clashes.proofs.masks.marked.Reads as marked-reads
 use Rattle.catalogue.proofs.kinds.is_applied.Reads as is-applied-reads
 use Rattle.catalogue.proofs.kinds.is_general.Reads as is-general-reads
 use Rattle.results.proofs.counting.passes.Reads as passes-reads

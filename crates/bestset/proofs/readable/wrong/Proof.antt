@@ -1,5 +1,5 @@
 use borrow.Author.Tests.{not-true, not-false}
-use Rattle.bestset.specs.Rules.{wrong}
+use Rattle.sets.specs.Rules.{wrong}
 use borrow.Author.Needs.{needs}
 use Rattle.bestset.proofs.readable.wrong.Statement.{statement}
 use Rattle.bestset.proofs.readable.wrong.Tie as tie

@@ -13,11 +13,11 @@ use Rattle.fields.specs.Order.{headRules}
 use Rattle.fields.specs.Inner.{Countable}
 use Rattle.fields.proofs.Fitting.{countable}
 use Rattle.fields.proofs.Headed.{cut-past, There, there}
-use Rattle.cohort.specs.Held.{Held, nothing, idsOf}
-use Rattle.cohort.specs.Taking.{taken}
-use Rattle.cohort.specs.Judging.{valueRules}
+use Rattle.held.specs.Held.{Held, nothing, idsOf}
+use Rattle.held.specs.Taking.{taken}
+use Rattle.held.specs.Judging.{valueRules}
 use Rattle.cohort.specs.Inner.{fieldOf, Marked, Begins}
-use Rattle.cohort.proofs.Fairly.{few-subjects, few-students}
+use Rattle.held.proofs.Fairly.{few-subjects, few-students}
 use Rattle.cohort.proofs.Walk.{says-refused, Reached, reached-start, short, unordered, ends, value-is, by-value, stopped, gone, end-judged}
 use Rattle.cohort.proofs.Turns.{seen, noted-long, slotted, marked-taken, ids-taken, begins-start}
 use Rattle.cohort.proofs.Marking.{marked-start}

@@ -1,5 +1,5 @@
 use Rattle.cohort.proofs.Populated.{figures-no, figures-clear}
-use Rattle.cohort.specs.Taking.{figuresIn}
+use Rattle.held.specs.Taking.{figuresIn}
 use Rattle.curve.specs.Promise.{PopulationPromise}
 use Rattle.curve.specs.declared.Answer.{Answer}
 use mathlib.Core.List.{List}

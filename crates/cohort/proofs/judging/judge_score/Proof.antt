@@ -1,4 +1,4 @@
-use Rattle.cohort.specs.Judging.{given}
+use Rattle.held.specs.Judging.{given}
 use Rattle.cohort.specs.Inner.{Marks}
 use Rattle.fields.proofs.Fitting.{range-kept}
 use Rattle.scores.specs.Scores.{found}

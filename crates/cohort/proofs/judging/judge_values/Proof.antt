@@ -1,6 +1,6 @@
 use Rattle.cohort.specs.Inner.{fieldOf}
-use Rattle.cohort.specs.Judging.{valueRules, scoreRules, studentRules}
-use Rattle.cohort.specs.Held.{Held}
+use Rattle.held.specs.Judging.{valueRules, scoreRules, studentRules}
+use Rattle.held.specs.Held.{Held}
 use Rattle.paper.specs.declared.screening.Verdict.{Verdict}
 use Rattle.paper.specs.Screening.{ruled}
 use Rattle.paper.specs.Rulings.{judged}

@@ -10,9 +10,9 @@ use Rattle.fields.specs.Order.{headRules}
 use Rattle.fields.specs.Inner.{Countable}
 use Rattle.fields.proofs.Fitting.{countable}
 use Rattle.fields.proofs.Headed.{cut-past, There, there}
-use Rattle.cohort.specs.Held.{Held, nothing, idsOf}
-use Rattle.cohort.specs.Taking.{taken}
-use Rattle.cohort.specs.Judging.{valueRules}
+use Rattle.held.specs.Held.{Held, nothing, idsOf}
+use Rattle.held.specs.Taking.{taken}
+use Rattle.held.specs.Judging.{valueRules}
 use Rattle.cohort.specs.Inner.{fieldOf, Begins, Shows}
 use Rattle.cohort.specs.InnerValues.{Rest, rest}
 use Rattle.cohort.proofs.Walk.{not-refused, Reached, reached-start, short, ends, value-is, by-value, field-kept, gone, end-kept}

@@ -1,4 +1,4 @@
-use Rattle.initial.specs.Counts.{below}
+use Rattle.firsts.specs.Counts.{below}
 use Rattle.paper.specs.Limits.{mostCount}
 use Rattle.paper.specs.Lists.{sum}
 use Rattle.paper.proofs.Listing.{sum-step}

@@ -1,5 +1,5 @@
-use Rattle.initial.specs.Row.{scoreIn, rowFor}
-use Rattle.initial.specs.Inner.{scoreAmong}
+use Rattle.firsts.specs.Row.{scoreIn, rowFor}
+use Rattle.firsts.specs.InnerAmong.{scoreAmong}
 use Rattle.scores.specs.Rows.{missingRow, stored}
 use Rattle.scores.proofs.Slotted.{missing-row, row-cleared, row-stored}
 use Rattle.paper.specs.Limits.{scoreParts, missing}

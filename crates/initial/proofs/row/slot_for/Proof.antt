@@ -1,4 +1,4 @@
-use Rattle.initial.proofs.Slotting.{applied-slot, applied-asked, asked-most}
+use Rattle.firsts.proofs.Slotting.{applied-slot, applied-asked, asked-most}
 use Rattle.catalogue.specs.Kinds.{isApplied}
 use native.Mathlib.Omega.{arith}
 use Prim.Native.Nat.{_<_}

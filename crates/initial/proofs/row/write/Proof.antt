@@ -1,8 +1,8 @@
-use Rattle.initial.specs.Counts.{below as under, total as sumOf, score}
-use Rattle.initial.specs.Row.{asked, slotFor}
-use Rattle.initial.specs.Inner.{scoreAmong}
-use Rattle.initial.proofs.Rising.{below-next, score-most}
-use Rattle.initial.proofs.Slotting.{slot-within, in-none, row-next}
+use Rattle.firsts.specs.Counts.{below as under, total as sumOf, score}
+use Rattle.firsts.specs.Row.{asked, slotFor}
+use Rattle.firsts.specs.InnerAmong.{scoreAmong}
+use Rattle.firsts.proofs.Rising.{below-next, score-most}
+use Rattle.firsts.proofs.Slotting.{slot-within, in-none, row-next}
 use Rattle.scores.specs.Rows.{rowOf, stored}
 use Rattle.scores.proofs.Slotted.{length-row, row-same, missing-row, row-stored}
 use Rattle.paper.specs.Limits.{mostCount, scoreParts, topScore}

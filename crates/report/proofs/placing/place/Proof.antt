@@ -1,8 +1,8 @@
-use Rattle.report.proofs.Accepting.{table-long, all-listed, remainderIn, placed-once}
-use Rattle.report.specs.Inner.{columns}
-use Rattle.report.specs.Report.{columnsOf}
-use Rattle.bands.specs.declared.Answer.the-variants.{Accepted}
-use Rattle.bands.specs.Placing.{remainder}
+use Rattle.printed.proofs.Accepting.{table-long, all-listed, remainderIn, placed-once}
+use Rattle.printed.specs.InnerCohorts.{columns}
+use Rattle.printed.specs.Report.{columnsOf}
+use Rattle.placements.specs.declared.Answer.the-variants.{Accepted}
+use Rattle.placements.specs.Placing.{remainder}
 use Rattle.curve.specs.Curve.{tableOf}
 use Rattle.paper.specs.Limits.{bandCount}
 use lib.ListN.{length, replicate}

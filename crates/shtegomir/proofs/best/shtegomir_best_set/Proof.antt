@@ -2,7 +2,7 @@ use borrow.Author.Needs.{needs}
 use Rattle.shtegomir.proofs.best.shtegomir_best_set.Statement.{statement}
 use Rattle.shtegomir.proofs.best.shtegomir_best_set.Tie as tie
 use Rattle.bestset.proofs.best_set.Reads as best-set-reads
-use Rattle.shtegomir.proofs.best.flatten.Reads as flatten-reads
+use Rattle.told.proofs.best.flatten.Reads as flatten-reads
 
 best-set-requires : tie.Need-best-set-requires
 best-set-requires c κs = search needs

@@ -1,10 +1,10 @@
 use borrow.Author.Needs.{needs}
 use native.Mathlib.Omega.{arith}
-use Rattle.shtegomir.proofs.Few.{direct-few}
+use Rattle.told.proofs.Few.{direct-few}
 use Rattle.shtegomir.proofs.placing.shtegomir_place_direct.Statement.{statement}
 use Rattle.shtegomir.proofs.placing.shtegomir_place_direct.Tie as tie
 use Rattle.bands.proofs.place.Reads as place-reads
-use Rattle.shtegomir.proofs.placing.flatten.Reads as flatten-reads
+use Rattle.told.proofs.placing.flatten.Reads as flatten-reads
 
 place-requires : tie.Need-place-requires
 place-requires c κs = search needs

@@ -1,11 +1,11 @@
 use borrow.Author.Needs.{needs}
 use native.Mathlib.Omega.{arith}
-use Rattle.bands.specs.Promise.{lent}
-use Rattle.shtegomir.proofs.Few.{together-few}
+use Rattle.placements.specs.Promise.{lent}
+use Rattle.told.proofs.Few.{together-few}
 use Rattle.shtegomir.proofs.placing.shtegomir_rank_and_place.Statement.{statement}
 use Rattle.shtegomir.proofs.placing.shtegomir_rank_and_place.Tie as tie
 use Rattle.bands.proofs.rank_and_place.Reads as rank-and-place-reads
-use Rattle.shtegomir.proofs.placing.flatten.Reads as flatten-reads
+use Rattle.told.proofs.placing.flatten.Reads as flatten-reads
 
 rank-and-place-requires : tie.Need-rank-and-place-requires
 rank-and-place-requires c κs = search needs

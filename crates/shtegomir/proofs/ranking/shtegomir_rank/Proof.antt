@@ -2,7 +2,7 @@ use borrow.Author.Needs.{needs}
 use Rattle.shtegomir.proofs.ranking.shtegomir_rank.Statement.{statement}
 use Rattle.shtegomir.proofs.ranking.shtegomir_rank.Tie as tie
 use Rattle.ranks.proofs.ranks.Reads as ranks-reads
-use Rattle.shtegomir.proofs.ranking.flatten.Reads as flatten-reads
+use Rattle.told.proofs.ranking.flatten.Reads as flatten-reads
 
 ranks-requires : tie.Need-ranks-requires
 ranks-requires c κs = search needs

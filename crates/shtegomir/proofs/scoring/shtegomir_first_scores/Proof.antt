@@ -2,7 +2,7 @@ use borrow.Author.Needs.{needs}
 use Rattle.shtegomir.proofs.scoring.shtegomir_first_scores.Statement.{statement}
 use Rattle.shtegomir.proofs.scoring.shtegomir_first_scores.Tie as tie
 use Rattle.initial.proofs.first_scores.Reads as first-scores-reads
-use Rattle.shtegomir.proofs.scoring.flatten.Reads as flatten-reads
+use Rattle.told.proofs.scoring.flatten.Reads as flatten-reads
 
 first-scores-requires : tie.Need-first-scores-requires
 first-scores-requires c κs = search needs

@@ -1,0 +1,2 @@
+pub mod InnerMasks
+pub mod InnerPairs

@@ -1,0 +1,4 @@
+pub mod Counts
+pub mod Row
+pub mod InnerAmong
+pub mod Promise

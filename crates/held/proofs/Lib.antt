@@ -1,0 +1,12 @@
+pub mod Accepts
+pub mod ByHand
+pub mod ByHandOrder
+pub mod ByHandTaking
+pub mod ByHandValues
+pub mod Fairly
+pub mod Figures
+pub mod Holding
+pub mod Inverse
+pub mod Promised
+pub mod Pupils
+pub mod Within

@@ -1,0 +1,9 @@
+pub mod ByHand
+pub mod ByHandBands
+pub mod ByHandOrder
+pub mod Demand
+pub mod Placed
+pub mod Promised
+pub mod Remainder
+pub mod TwoCalls
+pub mod Worked

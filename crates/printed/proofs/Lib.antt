@@ -1,0 +1,11 @@
+pub mod Accepting
+pub mod Best
+pub mod Bounded
+pub mod ByHand
+pub mod ByHandListing
+pub mod Columns
+pub mod Demands
+pub mod Few
+pub mod Lengths
+pub mod Promised
+pub mod Whole

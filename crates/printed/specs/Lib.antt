@@ -1,0 +1,5 @@
+pub mod Sizes
+pub mod Report
+pub mod InnerCohorts
+pub mod Promise
+pub mod Meaning

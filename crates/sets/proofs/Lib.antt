@@ -1,0 +1,17 @@
+pub mod ByHand
+pub mod ByHandGrades
+pub mod ByHandOrder
+pub mod ByHandRounding
+pub mod ByHandSets
+pub mod ByHandYears
+pub mod Choosing
+pub mod Deciding
+pub mod Demand
+pub mod Formed
+pub mod Meeting
+pub mod Named
+pub mod Places
+pub mod Promised
+pub mod Rounding
+pub mod Scored
+pub mod Years

@@ -1,0 +1,5 @@
+pub mod Admissible
+pub mod Rules
+pub mod Promise
+pub mod Computed
+pub mod Examples
