@@ -6,7 +6,7 @@ use mathlib.Core.Path.{◌≡◌, refl, sym, ap, ap₂, subst, ◌∙◌}
 use mathlib.Core.Bool.{Bool, true, false, ◌&&◌, ◌||◌, true≢false}
 use mathlib.Core.Logic.{⊎_elim}
 use mathlib.Core.List.{List}
-use borrow.Author.Tests.{ltb-false, leb-true, eqb-true, eqb-false, not_true, eq-eqb, ne_eqb, le-ltb}
+use borrow.Author.Tests.{ltb-false, leb-true, eqb-true, eqb-false, not-true, eq-eqb, ne_eqb, le-ltb}
 use Rattle.paper.specs.Limits.{most_results, most_span}
 use Rattle.paper.specs.Lists.{pick, some}
 use Rattle.paper.specs.Words.{◌≤?◌, ◌=?◌, ◌≠?◌}
@@ -175,7 +175,7 @@ each-no_two s set d i j l p q =
   where
     go : (a b : Bool) (x y : ℕ) → (a ≡ true → b ≡ true → y ≡ x → ⊥) → (pick a x 0 ≠? 0 && pick b y 0 =? pick a x 0) ≡ false
     go false b x y n = refl
-    go true false x y n = not_both (x ≠? 0) (0 =? x) (λ t. ne_eqb 0 x (λ e. eqb-false x 0 (not_true _ t) (sym e)))
+    go true false x y n = not_both (x ≠? 0) (0 =? x) (λ t. ne_eqb 0 x (λ e. eqb-false x 0 (not-true _ t) (sym e)))
     go true true x y n = not_both (x ≠? 0) (y =? x) (λ t. ne_eqb y x (n refl refl))
 
 -- ---- all within five years

@@ -15,7 +15,7 @@ use results::reading::Result;
 use results::{counting, reading, scoring};
 
 // All results were read, or what is wrong with the first that is wrong.
-#[derive(Drop)]
+#[derive(Clone, Copy)]
 pub(crate) enum Reading {
     All(Masks),
     Wrong(Refusal),

@@ -8,7 +8,7 @@ use paper::limits::ENTRY_BYTES;
 use paper::widening::wide8;
 use paper::{bytes, ranges};
 
-#[derive(Drop)]
+#[derive(Clone, Copy)]
 pub struct Entry {
     pub kind: u8,
     pub strand: u8,

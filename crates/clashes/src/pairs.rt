@@ -12,7 +12,7 @@ use results::reading;
 
 // The results before one, by what they are to it: usable, of its subject, and of its year, of a later one, of an earlier one; and those too far from it
 // in years or with its identity.
-#[derive(Drop)]
+#[derive(Clone, Copy)]
 pub struct Against {
     pub again: u16,
     pub later: u16,
@@ -21,7 +21,7 @@ pub struct Against {
 }
 
 // The first that is the later one of two usable results of one subject and year; or the kept results.
-#[derive(Drop)]
+#[derive(Clone, Copy)]
 pub enum Compared {
     Again(usize),
     Kept(u16),

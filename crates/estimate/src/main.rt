@@ -6,7 +6,7 @@ use paper::limits::MOST_BYTES;
 use report::TEXT_BYTES;
 
 // How many bytes were read, or that a read failed.
-#[derive(Drop)]
+#[derive(Clone, Copy)]
 enum Input {
     Read(usize),
     Failed,

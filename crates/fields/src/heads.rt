@@ -5,7 +5,7 @@ ghost use Rattle.fields.specs.Inner.{head_at};
 use paper::bytes;
 
 // The tag and the value's length of a field that is whole; or it is cut short.
-#[derive(Drop)]
+#[derive(Clone, Copy)]
 pub enum Head {
     Whole { tag: u8, length: usize },
     Cut,

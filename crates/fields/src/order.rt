@@ -15,7 +15,7 @@ use paper::screening::Verdict;
 use paper::widening::wide8;
 
 // The last field's tag, the numbers of subjects and students, and of the latest student's results.
-#[derive(Drop)]
+#[derive(Clone, Copy)]
 pub struct Far {
     pub last: u8,
     pub subjects: usize,

@@ -3,7 +3,7 @@
 use paper::refusal::Refusal;
 
 // Accepted, or what is wrong.
-#[derive(Drop)]
+#[derive(Clone, Copy)]
 pub enum Answer {
     Accepted,
     Refused(Refusal),

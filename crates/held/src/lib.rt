@@ -2,7 +2,7 @@
 use paper::refusal::Refusal;
 
 // What is told of a file: the year, the numbers of subjects and students, Y and r.
-#[derive(Drop)]
+#[derive(Clone, Copy)]
 pub struct Summary {
     pub year: u16,
     pub subjects: usize,
@@ -12,7 +12,7 @@ pub struct Summary {
 }
 
 // That, or what is wrong.
-#[derive(Drop)]
+#[derive(Clone, Copy)]
 pub enum Answer {
     Accepted(Summary),
     Refused(Refusal),

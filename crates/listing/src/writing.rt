@@ -11,7 +11,7 @@ use paper::units::{HUNDREDTHS, THOUSANDTHS};
 pub const LINE_BYTES: usize = 64;
 
 // The bytes of the text, then zeros.
-#[derive(Drop)]
+#[derive(Clone, Copy)]
 pub struct Line {
     pub bytes: [u8; LINE_BYTES],
     pub length: usize,

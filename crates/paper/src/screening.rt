@@ -2,7 +2,7 @@
 use crate::refusal::Refusal;
 
 // Nothing is wrong, or the first thing that is.
-#[derive(Drop)]
+#[derive(Clone, Copy)]
 pub enum Verdict {
     Clear,
     Refused(Refusal),

@@ -2,7 +2,7 @@
 use paper::refusal::Refusal;
 
 // The remainder, or what is wrong.
-#[derive(Drop)]
+#[derive(Clone, Copy)]
 pub enum Answer {
     Accepted { remainder: usize },
     Refused(Refusal),

@@ -2,7 +2,7 @@
 use paper::refusal::Refusal;
 
 // The length of the text, or what is wrong.
-#[derive(Drop)]
+#[derive(Clone, Copy)]
 pub enum Answer {
     Accepted { length: usize },
     Refused(Refusal),

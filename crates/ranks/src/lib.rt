@@ -10,7 +10,7 @@ mod search;
 mod sort;
 
 // Accepted, or what is wrong.
-#[derive(Drop)]
+#[derive(Clone, Copy)]
 pub enum Answer {
     Accepted,
     Refused(Refusal),

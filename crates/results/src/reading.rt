@@ -8,7 +8,7 @@ use paper::bytes;
 use paper::limits::RESULT_BYTES;
 
 // A result, with the entry of its subject.
-#[derive(Drop)]
+#[derive(Clone, Copy)]
 pub struct Result {
     pub subject: u16,
     pub letter: u8,

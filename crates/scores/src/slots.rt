@@ -12,15 +12,15 @@ use paper::widening::wide8;
 use paper::{bytes, ranges};
 
 // A raw result: the slot that is asked for. 1 to 100 have a slot; that of another number is missing.
-#[derive(Drop)]
+#[derive(Clone, Copy)]
 pub struct Raw(pub u8);
 
 // A scaled result, in ten-thousandths.
-#[derive(Drop)]
+#[derive(Clone, Copy)]
 pub struct Scaled(pub u32);
 
 // What a slot holds: a score, nothing, or a number over the greatest score.
-#[derive(Drop)]
+#[derive(Clone, Copy)]
 pub enum Slot {
     Score(Scaled),
     Missing,

@@ -1,6 +1,6 @@
 -- Laws of a set's bits and of its positions.
 use Prim.Native.Nat.{ℕ, zero, suc, ◌+◌, ◌-◌, ◌*◌, ◌/◌, ◌%◌, ◌^◌, ◌≤◌, ◌<◌, min, max}
-use native.Mathlib.Nat.{eq-or-lt_of_le, div-one, div-eq_of_lt, div-lt_iff_lt-mul, mod-eq_of_lt, mod-lt, lt_of_not_le, lt_of_lt_of_le, lt_of_le_of_lt, add-zero, add-suc, suc-add, zero-add}
+use native.Mathlib.Nat.{eq-or-lt_of_le, div-one, div-eq_of_lt, div-lt_iff_lt-mul, mod-eq_of_lt, mod-lt, lt_of_not-le, lt_of_lt_of_le, lt_of_le_of_lt, add-zero, add-suc, suc-add, zero-add}
 use native.Mathlib.Numerals.{add-one, one-add}
 use native.Mathlib.Omega.{arith}
 use mathlib.Core.Path.{◌≡◌, refl, sym, ap, ◌∙◌}
@@ -34,7 +34,7 @@ bit-suc i m = ap (λ (x : ℕ). x % 2) (ap (λ (n : ℕ). m / 2 ^ n) (sym (one-a
 -- a member lies below the set's bound
 pub in_lt : (k m i : ℕ) → m < 2 ^ k → In i m → i < k
 in_lt k m i h e =
-    lt_of_not_le (λ (g : k ≤ i).
+    lt_of_not-le (λ (g : k ≤ i).
     let z : m / 2 ^ i ≡ 0 = div-eq_of_lt (lt_of_lt_of_le h (pow_mono g)) in
     let y : bit i m ≡ 0 = ap (λ (x : ℕ). x % 2) z in
     omega arith)

@@ -15,14 +15,14 @@ const MEMBER_COUNT: usize = MEMBERS as usize;
 const STEPPED: usize = MEMBER_COUNT - 2;
 
 // The kept results, and those that are General: bit i for result i.
-#[derive(Drop)]
+#[derive(Clone, Copy)]
 pub struct Test {
     pub kept: u16,
     pub general: u16,
 }
 
 // The best set so far with its sum, or none.
-#[derive(Drop)]
+#[derive(Clone, Copy)]
 pub enum Lead {
     Leading { total: u32, set: u16 },
     Nothing,

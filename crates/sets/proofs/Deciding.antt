@@ -3,7 +3,7 @@ use Prim.Native.Nat.{ℕ, ◌+◌, ◌<◌, ◌≤◌, ◌^◌}
 use mathlib.Core.Path.{◌≡◌, refl, sym, ◌∙◌}
 use mathlib.Core.Bool.{Bool, true, false, not, ◌&&◌, true≢false}
 use lib.ListN.{length}
-use borrow.Author.Tests.{ltb-true, ltb-false, leb-true, eqb-true, lt-ltb, le-ltb, le-leb, eq-eqb, not_true}
+use borrow.Author.Tests.{ltb-true, ltb-false, leb-true, eqb-true, lt-ltb, le-ltb, le-leb, eq-eqb, not-true}
 use Rattle.paper.proofs.Booleans.{both_true, true_both, not_both, true_not}
 use Rattle.paper.proofs.Firsts.{some-has, some_at}
 use Rattle.seek.specs.Sets.{In, has, positions, count_over}
@@ -94,7 +94,7 @@ module _ (s : Student) (set : ℕ) (w : set < 2 ^ most_results) where
       go false z = absurd (no_member set (λ k. not (kept s k)) e w i m (true_not (kept s i) z))
 
   kept-each : ((i : ℕ) → In i set → kept s i ≡ true) → some_in set (λ i. not (kept s i)) ≡ false
-  kept-each h = none_in set (λ k. not (kept s k)) (λ i m t. true≢false (sym (h i m) ∙ not_true (kept s i) t))
+  kept-each h = none_in set (λ k. not (kept s k)) (λ i m t. true≢false (sym (h i m) ∙ not-true (kept s i) t))
 
 pub test_admissible : (s : Student) (set : ℕ) → admissible s set ≡ true → Admissible s set
 unfolding admissible
@@ -110,12 +110,12 @@ test_admissible s set e =
     record {
       bits = w;
       five = eqb-true _ _ b.1;
-      each = each-kept s set w (not_true _ d.0);
+      each = each-kept s set w (not-true _ d.0);
       four = leb-true _ _ d.1;
-      englishes = both_false s set w english (not_true _ f.0);
-      maths = both_false s set w mathematics (not_true _ g.0);
-      identities = twice-false s set w (not_true _ h.0);
-      years = scattered-false s set w (not_true _ h.1);
+      englishes = both_false s set w english (not-true _ f.0);
+      maths = both_false s set w mathematics (not-true _ g.0);
+      identities = twice-false s set w (not-true _ h.0);
+      years = scattered-false s set w (not-true _ h.1);
     }
 
 pub admissible-test : (s : Student) (set : ℕ) → Admissible s set → admissible s set ≡ true

@@ -3,7 +3,7 @@
 use paper::refusal::Refusal;
 
 // The aggregate in hundredths and the set, bit i for result i; or what is wrong.
-#[derive(Drop)]
+#[derive(Clone, Copy)]
 pub enum Answer {
     Accepted { aggregate: u32, set: u16 },
     Refused(Refusal),

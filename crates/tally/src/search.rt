@@ -14,7 +14,7 @@ use paper::widening::wide32;
 const ONE_PLACE: u64 = BAND_COUNT as u64 * MILLIONTHS;
 
 // A band, the sum of the table's entries from it on, and its places, unrounded, times 2000000000.
-#[derive(Drop)]
+#[derive(Clone, Copy)]
 pub struct Reached {
     pub band: usize,
     pub sum: u64,

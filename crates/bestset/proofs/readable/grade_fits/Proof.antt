@@ -1,4 +1,4 @@
-use borrow.Author.Tests.{eq-eqb, ne_eqb, not_true, not-false}
+use borrow.Author.Tests.{eq-eqb, ne_eqb, not-true, not-false}
 use borrow.Author.Rules.{rules}
 use Rattle.bestset.proofs.readable.grade_fits.Statement.{statement}
 use Rattle.bestset.proofs.readable.grade_fits.Tie as tie
@@ -35,7 +35,7 @@ returns-4 : tie.Need-returns-4
 returns-4 c =
     let w = c.before in
     let f = w.before.before in
-    simp (← f.before.is-vet.ensures, f.if1.left, ← w.before.wide8.ensures.0, ← w.within.ensures, not_true w.within.result c.if4.taken)
+    simp (← f.before.is-vet.ensures, f.if1.left, ← w.before.wide8.ensures.0, ← w.within.ensures, not-true w.within.result c.if4.taken)
 
 is-general-requires : tie.Need-is-general-requires
 is-general-requires c κs = search rules

@@ -1,4 +1,4 @@
-use borrow.Author.Tests.{eq-eqb, ne_eqb, lt-ltb, le-ltb, not_true, not-false}
+use borrow.Author.Tests.{eq-eqb, ne_eqb, lt-ltb, le-ltb, not-true, not-false}
 use borrow.Author.Rules.{rules}
 use Rattle.bestset.proofs.readable.judge_input.Statement.{statement}
 use Rattle.bestset.proofs.readable.judge_input.Tie as tie
@@ -14,7 +14,7 @@ within-requires : tie.Need-within-requires
 within-requires c κs = search rules
 
 returns-2 : tie.Need-returns-2
-returns-2 c = simp (eq-eqb _ _ c.before.before.if1.left, ← c.before.within.ensures, not_true c.before.within.result c.if2.taken)
+returns-2 c = simp (eq-eqb _ _ c.before.before.if1.left, ← c.before.within.ensures, not-true c.before.within.result c.if2.taken)
 
 returns-3 : tie.Need-returns-3
 returns-3 c = simp (eq-eqb _ _ c.before.before.before.if1.left, ← c.before.before.within.ensures, not-false c.before.before.within.result c.before.if2.left, ne_eqb _ _ c.if3.taken)

@@ -1,4 +1,4 @@
-use borrow.Author.Tests.{not_true, not-false}
+use borrow.Author.Tests.{not-true, not-false}
 use borrow.Author.Rules.{rules}
 use Rattle.bestset.proofs.readable.unscored.Statement.{statement}
 use Rattle.bestset.proofs.readable.unscored.Tie as tie
@@ -9,7 +9,7 @@ usable-requires : tie.Need-usable-requires
 usable-requires c κs = search rules
 
 returns : tie.Need-returns
-returns c = simp (← c.before.usable.ensures, not_true c.before.usable.result c.if1.true)
+returns c = simp (← c.before.usable.ensures, not-true c.before.usable.result c.if1.true)
 
 is-score-requires : tie.Need-is-score-requires
 is-score-requires c κs = search rules

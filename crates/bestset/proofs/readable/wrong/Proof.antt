@@ -1,4 +1,4 @@
-use borrow.Author.Tests.{not_true, not-false}
+use borrow.Author.Tests.{not-true, not-false}
 use Rattle.sets.specs.Rules.{wrong}
 use borrow.Author.Rules.{rules}
 use Rattle.bestset.proofs.readable.wrong.Statement.{statement}
@@ -12,7 +12,7 @@ grade-fits-requires c κs = search rules
 
 returns : tie.Need-returns
 unfolding wrong
-returns c = simp (← c.before.grade-fits.ensures, not_true c.before.grade-fits.result c.if1.taken)
+returns c = simp (← c.before.grade-fits.ensures, not-true c.before.grade-fits.result c.if1.taken)
 
 wide16-requires : tie.Need-wide16-requires
 wide16-requires c κs = search rules

@@ -1,4 +1,4 @@
-use borrow.Author.Tests.{not_true, not-false, eq-eqb, ne_eqb}
+use borrow.Author.Tests.{not-true, not-false, eq-eqb, ne_eqb}
 use borrow.Author.Rules.{rules}
 use Rattle.results.proofs.counting.passes.Statement.{statement}
 use Rattle.results.proofs.counting.passes.Tie as tie
@@ -10,7 +10,7 @@ usable-requires : tie.Need-usable-requires
 usable-requires c κs = search rules
 
 returns : tie.Need-returns
-returns c = simp (← c.before.usable.ensures, not_true c.before.usable.result c.if1.taken)
+returns c = simp (← c.before.usable.ensures, not-true c.before.usable.result c.if1.taken)
 
 returns-2 : tie.Need-returns-2
 returns-2 c = simp (← c.before.before.before.usable.ensures, not-false c.before.before.before.usable.result c.before.before.if1.left, ne_eqb _ _ c.if2.taken)

@@ -1,0 +1,9 @@
+use Rattle.curve.specs.Curve.{table_of}
+use Rattle.paper.proofs.Filling.{all_filled}
+use Prim.Native.Nat.{◌-◌}
+use Rattle.curve.proofs.table.fill.Goals as goal
+
+pub returns : goal.returns
+unfolding table_of
+returns c =
+    all_filled c.loop-k.invariant c.loop-k-test.false

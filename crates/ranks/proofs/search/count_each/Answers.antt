@@ -1,0 +1,15 @@
+use Rattle.ranks.proofs.Counting.{at-within}
+use Prim.Native.Nat.{◌-◌}
+use native.Mathlib.Omega.{arith}
+use lib.ListN.{get_or}
+use Rattle.ranks.specs.Ranking.{at_most}
+use Rattle.paper.proofs.Filling.{all_filled}
+use Rattle.ranks.proofs.search.count_each.Goals as goal
+
+pub overflow_cast-ranks : goal.overflow_cast-ranks
+overflow_cast-ranks c =
+    omega (arith, c.at_most.ensures, at-within c.args.sorted.now (get_or c.args.values.now c.loop-i.i 0))
+
+pub returns : goal.returns
+returns c =
+    all_filled c.loop-i.invariant c.loop-i-test.false

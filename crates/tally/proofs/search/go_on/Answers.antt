@@ -1,0 +1,7 @@
+use mathlib.Core.Path.{sym, ◌∙◌}
+use Rattle.tally.proofs.Reaching.{search_fits}
+use Rattle.tally.proofs.search.go_on.Goals as goal
+
+pub returns-then-fits : goal.returns-then-fits
+returns-then-fits c =
+    search_fits c.requires (sym c.fits2.ensures ∙ c.if-fits.true)
