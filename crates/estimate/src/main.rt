@@ -1,9 +1,9 @@
 // The office's program: a cohort file on standard input, its listing on standard output.
 ghost use Rattle.estimate.specs.Input.{Within};
 
-use libc::{STDERR_FILENO, STDIN_FILENO, STDOUT_FILENO};
 use paper::limits::MOST_BYTES;
 use report::TEXT_BYTES;
+use std::io::{Print, Read, Stderr, Stdin, Stdout};
 
 // How many bytes were read, or that a read failed.
 #[derive(Clone, Copy)]
@@ -13,43 +13,46 @@ enum Input {
 }
 
 // Reads until the buffer is full or the input ends.
-fn read_input(file: &mut [u8]) -> Input
+fn read_input(mut from: Stdin, file: &mut [u8]) -> Input
     ensures { Within result file.new }
 {
     let mut n = 0;
     while n < file.len() {
-        let got = libc::read(STDIN_FILENO, &mut file[n..]);
-        if got < 0 {
-            return Input::Failed;
+        match from.read(&mut file[n..]) {
+            Ok(more) => {
+                if more == 0 {
+                    break;
+                }
+                n += more;
+            }
+            Err(_) => return Input::Failed,
         }
-        let more = io::count(got, &file[n..]);
-        if more == 0 {
-            break;
-        }
-        n += more;
     }
     Input::Read(n)
 }
 
+// What is said on the error stream; nobody is left to be told where that fails.
+fn complain(err: Stderr, what: &[u8]) {
+    let _ = err.write_all(what);
+}
+
 // Writes the listing of a file. A text buffer of its length is accepted, whatever the file: `room` (printed/proofs/Promised.antt).
-fn list(file: &[u8]) {
+fn list(out: Stdout, err: Stderr, file: &[u8]) {
     let mut text = [0u8; TEXT_BYTES];
     let answer = report::report(file, &mut text);
     if let printed::Answer::Accepted { length } = answer {
-        if !io::write_all(STDOUT_FILENO, &text[..length]) {
-            io::write_all(STDERR_FILENO, b"estimate: the listing cannot be written\n");
+        if out.write_all(&text[..length]).is_err() {
+            complain(err, b"estimate: the listing cannot be written\n");
         }
     }
 }
 
 // One byte more than is accepted is read, so that a file that is too long is seen.
-fn main() {
+fn main(rt: HostRuntime) {
     let mut file = [0u8; MOST_BYTES + 1];
-    let input = read_input(&mut file);
+    let input = read_input(rt.stdin(), &mut file);
     match input {
-        Input::Read(n) => list(&file[..n]),
-        Input::Failed => {
-            io::write_all(STDERR_FILENO, b"estimate: the file cannot be read\n");
-        }
+        Input::Read(n) => list(rt.stdout(), rt.stderr(), &file[..n]),
+        Input::Failed => complain(rt.stderr(), b"estimate: the file cannot be read\n"),
     }
 }

@@ -6,8 +6,9 @@ mod saying;
 mod slips;
 mod table3;
 
-fn main() {
-    table3::run();
-    edges::run();
-    slips::run();
+fn main(rt: HostRuntime) {
+    let out = rt.stdout();
+    table3::run(out);
+    edges::run(out);
+    slips::run(out);
 }

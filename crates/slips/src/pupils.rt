@@ -4,6 +4,7 @@ use paper::limits::{ENTRY_BYTES, RESULT_BYTES, ROW_BYTES, SCORE_PARTS, SLOTS};
 use scores::rows;
 use scores::slots::{Raw, Scaled};
 use sets::Answer;
+use std::io::Stdout;
 
 // Places in the catalogue.
 pub(crate) const ENGLISH: u8 = 0;
@@ -120,28 +121,28 @@ impl Results {
 }
 
 // The aggregate and the set, or the refusal.
-fn told(answer: Answer) {
+fn told(out: Stdout, answer: Answer) {
     match answer {
         Answer::Accepted { aggregate, set } => {
-            saying::hundredths(aggregate as u64);
-            saying::text(b" set ");
-            saying::number(set as u64);
-            saying::text(b"\n");
+            saying::hundredths(out, aggregate as u64);
+            saying::text(out, b" set ");
+            saying::number(out, set as u64);
+            saying::text(out, b"\n");
         }
-        Answer::Refused(x) => saying::refused(x),
+        Answer::Refused(x) => saying::refused(out, x),
     }
 }
 
 // The best set of six results.
-fn chosen(catalogue: &[u8; CATALOGUE], table: &[u8; TABLE], results: &[u8; RESULTS]) {
+fn chosen(out: Stdout, catalogue: &[u8; CATALOGUE], table: &[u8; TABLE], results: &[u8; RESULTS]) {
     let answer = bestset::best_set(catalogue, table, 2021, results);
-    told(answer);
+    told(out, answer);
 }
 
 // What is asked, and the best set in 2021.
-pub(crate) fn best(what: &[u8], table: &[u8; TABLE], results: Results) {
-    saying::text(what);
+pub(crate) fn best(out: Stdout, what: &[u8], table: &[u8; TABLE], results: Results) {
+    saying::text(out, what);
     let subjects = catalogue();
     let bytes = results.bytes;
-    chosen(&subjects, table, &bytes);
+    chosen(out, &subjects, table, &bytes);
 }

@@ -1,62 +1,62 @@
 // What is printed: texts, numbers with decimals, refusals.
-use libc::STDOUT_FILENO;
 use paper::limits::BAND_STEP;
 use paper::refusal::Refusal;
+use std::io::{Print, Stdout};
 
 // The bytes of a line.
 const LINE: usize = 64;
 
-pub(crate) fn text(text: &[u8]) {
-    io::write_all(STDOUT_FILENO, text);
+pub(crate) fn text(out: Stdout, text: &[u8]) {
+    let _ = out.write_all(text);
 }
 
-pub(crate) fn number(n: u64) {
-    io::print_decimal(STDOUT_FILENO, n);
+pub(crate) fn number(out: Stdout, n: u64) {
+    let _ = out.print(n);
 }
 
 // Two decimals of a number of hundredths.
-pub(crate) fn hundredths(n: u64) {
-    number(n / 100);
-    text(b".");
-    number(n / 10 % 10);
-    number(n % 10);
+pub(crate) fn hundredths(out: Stdout, n: u64) {
+    number(out, n / 100);
+    text(out, b".");
+    number(out, n / 10 % 10);
+    number(out, n % 10);
 }
 
 // Three decimals of a number of thousandths.
-pub(crate) fn thousandths(n: u64) {
-    number(n / 1000);
-    text(b".");
-    number(n / 100 % 10);
-    number(n / 10 % 10);
-    number(n % 10);
+pub(crate) fn thousandths(out: Stdout, n: u64) {
+    number(out, n / 1000);
+    text(out, b".");
+    number(out, n / 100 % 10);
+    number(out, n / 10 % 10);
+    number(out, n % 10);
 }
 
 // The ATAR of a band, and a space.
-pub(crate) fn atar(band: u16) {
-    hundredths(BAND_STEP * band as u64);
-    text(b" ");
+pub(crate) fn atar(out: Stdout, band: u16) {
+    hundredths(out, BAND_STEP * band as u64);
+    text(out, b" ");
 }
 
 // An entry of the participation table.
-pub(crate) fn entry(n: u32) {
-    number(n as u64);
+pub(crate) fn entry(out: Stdout, n: u32) {
+    number(out, n as u64);
 }
 
 // The first bytes of a text.
-fn part(bytes: &[u8], length: usize) {
+fn part(out: Stdout, bytes: &[u8], length: usize) {
     if length <= bytes.len() {
-        text(&bytes[..length]);
+        text(out, &bytes[..length]);
     }
 }
 
 // What a line of the listing shows.
-fn shown(bytes: &[u8; LINE], length: usize) {
-    part(bytes, length);
+fn shown(out: Stdout, bytes: &[u8; LINE], length: usize) {
+    part(out, bytes, length);
 }
 
 // The listing's line of a refusal.
-pub(crate) fn refused(x: Refusal) {
+pub(crate) fn refused(out: Stdout, x: Refusal) {
     let line = listing::file_line(x);
     let bytes = line.bytes;
-    shown(&bytes, line.length);
+    shown(out, &bytes, line.length);
 }

@@ -4,6 +4,7 @@ use crate::{pupils, saying};
 use curve::Answer as Curved;
 use paper::limits::{BAND_COUNT, MOST_ENTRY, TALLY_COUNT};
 use placements::Answer;
+use std::io::Stdout;
 
 // Student 7, whom five highest first, rules after, refuses.
 fn seven() -> Results {
@@ -28,14 +29,14 @@ fn eight() -> Results {
 }
 
 // Of sets.
-fn sets() {
+fn sets(out: Stdout) {
     let table = pupils::scores();
-    pupils::best(
+    pupils::best(out, 
         b"not five highest first, rules after: student 7 ",
         &table,
         seven(),
     );
-    pupils::best(
+    pupils::best(out, 
         b"not dropping the lower of two clashing: student 8 ",
         &table,
         eight(),
@@ -43,35 +44,35 @@ fn sets() {
 }
 
 // Each band's ATAR.
-fn atars(bands: &[u16]) {
+fn atars(out: Stdout, bands: &[u16]) {
     let mut i = 0;
     while i < bands.len() {
-        saying::atar(bands[i]);
+        saying::atar(out, bands[i]);
         i += 1;
     }
 }
 
 // What is asked, the bands and the remainder, or the refusal.
-fn placed(what: &[u8], answer: Answer, bands: &[u16]) {
-    saying::text(what);
+fn placed(out: Stdout, what: &[u8], answer: Answer, bands: &[u16]) {
+    saying::text(out, what);
     match answer {
         Answer::Accepted { remainder } => {
-            atars(bands);
-            saying::text(b"remainder ");
-            saying::number(remainder as u64);
-            saying::text(b"\n");
+            atars(out, bands);
+            saying::text(out, b"remainder ");
+            saying::number(out, remainder as u64);
+            saying::text(out, b"\n");
         }
-        Answer::Refused(x) => saying::refused(x),
+        Answer::Refused(x) => saying::refused(out, x),
     }
 }
 
 // Split by list order they have 99.95 and 99.90; with the band of the first of them both have 99.95.
-fn tied() {
+fn tied(out: Stdout) {
     let full = [MOST_ENTRY; BAND_COUNT];
     let aggregates = [40000u32, 40000, 30000];
     let mut bands = [0u16; 3];
     let answer = bands::place(&aggregates, &full, 2000, &mut bands);
-    placed(
+    placed(out, 
         b"not splitting tied students, by direct count: ",
         answer,
         &bands,
@@ -89,7 +90,7 @@ fn tied() {
         &mut others,
         &mut counts,
     );
-    placed(
+    placed(out, 
         b"not splitting tied students, in one call with their ranks: ",
         again,
         &others,
@@ -97,33 +98,33 @@ fn tied() {
 }
 
 // Half a place in each band. Rounded up each is one, and the student has 99.95; rounded down each is none, and the student is left.
-fn halves() {
+fn halves(out: Stdout) {
     let full = [MOST_ENTRY; BAND_COUNT];
     let aggregates = [40000u32];
     let mut bands = [0u16; 1];
     let answer = bands::place(&aggregates, &full, 1000, &mut bands);
-    placed(b"not rounding places per band: ", answer, &bands);
+    placed(out, b"not rounding places per band: ", answer, &bands);
 }
 
 // At r=7500 a is 0: the entries of bands 0 and 1. Divided by a² the first of them has no value.
-fn undivided() {
+fn undivided(out: Stdout) {
     let figures = [0u32, 10000, 0, 0, 0, 0, 7500, 0, 0, 0];
     let mut table = [0u32; BAND_COUNT];
     let answer = curve::curve(&figures, &mut table);
-    saying::text(b"not dividing by 0 at r=7500: ");
+    saying::text(out, b"not dividing by 0 at r=7500: ");
     if let Curved::Refused(x) = answer {
-        saying::refused(x);
+        saying::refused(out, x);
         return;
     }
-    saying::entry(table[0]);
-    saying::text(b" ");
-    saying::entry(table[1]);
-    saying::text(b"\n");
+    saying::entry(out, table[0]);
+    saying::text(out, b" ");
+    saying::entry(out, table[1]);
+    saying::text(out, b"\n");
 }
 
-pub(crate) fn run() {
-    sets();
-    tied();
-    undivided();
-    halves();
+pub(crate) fn run(out: Stdout) {
+    sets(out);
+    tied(out);
+    undivided(out);
+    halves(out);
 }

@@ -1,6 +1,7 @@
 // Table 3 of the technical document, of 51493 students: its rows, and the others between Lauren and Anna.
 use crate::saying;
 use ranks::Answer;
+use std::io::Stdout;
 
 // The students of the table.
 const STUDENTS: usize = 51493;
@@ -37,19 +38,19 @@ fn ranked(
 }
 
 // A row: the student, the polyrank, the rank and the percentile.
-fn row(name: &[u8], value: u32, rank: u32, percentile: u32) {
-    saying::text(b"Table 3: ");
-    saying::text(name);
-    saying::text(b" ");
-    saying::hundredths(value as u64);
-    saying::text(b" rank ");
-    saying::number(rank as u64);
-    saying::text(b" percentile ");
-    saying::thousandths(percentile as u64);
-    saying::text(b"\n");
+fn row(out: Stdout, name: &[u8], value: u32, rank: u32, percentile: u32) {
+    saying::text(out, b"Table 3: ");
+    saying::text(out, name);
+    saying::text(out, b" ");
+    saying::hundredths(out, value as u64);
+    saying::text(out, b" rank ");
+    saying::number(out, rank as u64);
+    saying::text(out, b" percentile ");
+    saying::thousandths(out, percentile as u64);
+    saying::text(out, b"\n");
 }
 
-pub(crate) fn run() {
+pub(crate) fn run(out: Stdout) {
     let mut values = [0u32; STUDENTS];
     let mut ranks = [0u32; STUDENTS];
     let mut percentiles = [0u32; STUDENTS];
@@ -57,23 +58,23 @@ pub(crate) fn run() {
     named(&mut values);
     let answer = ranked(&values, &mut ranks, &mut percentiles);
     if let Answer::Refused(x) = answer {
-        saying::refused(x);
+        saying::refused(out, x);
         return;
     }
-    row(b"Sophie", values[0], ranks[0], percentiles[0]);
-    row(b"George", values[1], ranks[1], percentiles[1]);
-    row(b"Wei", values[2], ranks[2], percentiles[2]);
-    row(b"Javier", values[3], ranks[3], percentiles[3]);
-    row(b"Andrew", values[4], ranks[4], percentiles[4]);
-    row(b"Linh", values[5], ranks[5], percentiles[5]);
-    row(b"Lauren", values[6], ranks[6], percentiles[6]);
-    row(
+    row(out, b"Sophie", values[0], ranks[0], percentiles[0]);
+    row(out, b"George", values[1], ranks[1], percentiles[1]);
+    row(out, b"Wei", values[2], ranks[2], percentiles[2]);
+    row(out, b"Javier", values[3], ranks[3], percentiles[3]);
+    row(out, b"Andrew", values[4], ranks[4], percentiles[4]);
+    row(out, b"Linh", values[5], ranks[5], percentiles[5]);
+    row(out, b"Lauren", values[6], ranks[6], percentiles[6]);
+    row(out, 
         b"Anna",
         values[STUDENTS - 2],
         ranks[STUDENTS - 2],
         percentiles[STUDENTS - 2],
     );
-    row(
+    row(out, 
         b"Nathan",
         values[STUDENTS - 1],
         ranks[STUDENTS - 1],
