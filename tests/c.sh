@@ -2,7 +2,8 @@
 # Sourced at the root of the repository. With SANITIZED=1 in the environment a program is built with the compiler's sanitizers, for
 # x86-64: a wrong address or undefined behaviour in its C ends it.
 
-library=target/staticlib/libshtegomir.a
+library=crates/shtegomir/out/libshtegomir.a
+estimate=crates/estimate/out/estimate
 warnings='-std=c99 -D_POSIX_C_SOURCE=199309L -Wall -Wextra -Werror -Iinclude'
 sanitizers='-g -O1 -fsanitize=address,undefined -fno-sanitize-recover=all'
 
@@ -14,6 +15,16 @@ else
     built=target/tests
     optimised=-O3
 fi
+
+# Builds the library, and proves before what is not proved yet.
+build_library() {
+    said=$(cd crates/shtegomir && rt lib 2>&1) && [ -f "$library" ] || { printf '%s\n' "$said" | tail -n 20; return 1; }
+}
+
+# Builds the program likewise.
+build_program() {
+    said=$(cd crates/estimate && rt run < stdin 2>&1 > /dev/null) && [ -f "$estimate" ] || { printf '%s\n' "$said" | tail -n 20; return 1; }
+}
 
 # Whether there are sanitizers here: a program is built with them, and runs.
 can_sanitize() {

@@ -8,11 +8,11 @@ signal.signal(signal.SIGPIPE, signal.SIG_DFL)
 
 ROOT = os.path.dirname(os.path.dirname(os.path.abspath(__file__)))
 
-# What a log's first error says where a proof no longer fits the code, so that no fact was refused.
-SHAPE = re.compile(
-    r"has no `Need-|that can be named from here|is not in scope|components but its type has|record `[^`]*\.Lts[^`]*` has no field"
-    r"|(?s:one has `[^`\s]*\.Lts\.PLACE`\s+\(expected\).{0,300}?the other has `[^`\s]*\.Lts\.PLACE`)".replace("PLACE", r"(?:After|Then|Else|At|Start)[\w-]*")
-)
+# What rt says of an edit that fell because a proof file names what the edit took away, so that no fact was refused.
+SHAPE = "only because a proof file names what the edit took away"
+
+# Where ./test keeps what `rt ci` said.
+SAID = os.path.join(ROOT, "target", "ci.log")
 
 
 def read(path):
@@ -31,7 +31,7 @@ def crates():
     for line in read(os.path.join(ROOT, "crates.txt")).split("\n"):
         name, colon, uses = line.split("#")[0].partition(":")
         if colon:
-            out[name.strip()] = uses.split()
+            out[name.split()[0]] = uses.split()
     return out
 
 
@@ -39,13 +39,13 @@ def files(folder, *endings):
     """The files below a folder that end so, in order; what is built or hidden is passed over."""
     found = []
     for at, folders, names in os.walk(folder):
-        folders[:] = [d for d in folders if not d.startswith(".") and d not in ("target", "__pycache__")]
+        folders[:] = [d for d in folders if not d.startswith(".") and d not in ("target", "out", "__pycache__")]
         found += [os.path.join(at, n) for n in names if n.endswith(endings)]
     return sorted(found)
 
 
-def crate_files(crate, part, ending):
-    return files(os.path.join(ROOT, "crates", crate, part), ending)
+def crate_files(crate, part, *endings):
+    return files(os.path.join(ROOT, "crates", crate, part), *endings)
 
 
 class Edit:
@@ -81,21 +81,13 @@ class Edit:
             texts[at] = text.replace(old, new)
         return texts, None
 
-    def log(self):
-        """Where `rt ci` and `rt must-fail` leave what the checker said."""
-        return os.path.join(ROOT, "target", "must-fail", self.name, ".log")
-
 
 def edits(crate):
     return [Edit(path) for path in crate_files(crate, "must-fail", ".edit")]
 
 
-def first_error(log):
-    """The first error of a log, with the lines that belong to it."""
-    found = re.search(r"^[^\n]*: error[^\n]*(?:\n [^\n]*){0,3}", log, re.M)
-    return found.group(0) if found else ""
-
-
-def of_shape(log):
-    """Whether a log refuses the shape of a proof before any fact."""
-    return bool(SHAPE.search(first_error(log) or log[:2000]))
+def trials():
+    """What `rt ci` said of each edit that it tried, CRATE/LABEL to the words after it; None where no run's words are kept."""
+    if not os.path.exists(SAID):
+        return None
+    return dict(re.findall(r"^rt: must-fail (\S+?)\.edit: (.*)$", read(SAID), re.M))

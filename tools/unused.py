@@ -15,8 +15,8 @@ def words(text):
 
 
 def occurs(name, counted):
-    """Whether a name occurs, or, of one with places for what it is applied to, such as `_<?_`, each word between them."""
-    return counted[name] > 0 or all(counted[part] > 0 for part in name.split("_") if part)
+    """Whether a name occurs, or, of one with places for what it is applied to, such as `◌<?◌`, each word between them."""
+    return counted[name] > 0 or "◌" in name and all(counted[part] > 0 for part in name.split("◌") if part)
 
 
 class Source:
@@ -62,17 +62,11 @@ def sources(listed):
     return [Source(p) for c in listed for part, end in (("src", ".rt"), ("specs", ".antt"), ("proofs", ".antt")) for p in crate_files(c, part, end)]
 
 
-def for_the_checker(path, local):
-    """In a proof file the `-reads` of callees are there so that the checker can name what it prints."""
-    return path.endswith("/Proof.antt") and local.endswith("-reads")
-
-
 def unused_imports(listed):
     found = []
     for source in sources(listed):
         for module, _, local in source.imported():
-            meant = module in source.handed_on or for_the_checker(source.path, local)
-            if not meant and not occurs(local, source.counted):
+            if module not in source.handed_on and not occurs(local, source.counted):
                 found.append(f"{here(source.path)}: imports `{local}` and does not use it")
     return found
 
@@ -89,11 +83,11 @@ def definitions(source):
             yield m[2], words("\n".join(lines[i:end]))
 
 
-def module_names(path):
-    """The two names of a file's module: within its crate, and for the crates above."""
+def module_name(path):
+    """The name of a file's module, in its crate and above."""
     _, crate, part, rest = here(path)[: -len(".antt")].split(os.sep, 3)
     inside = rest.replace(os.sep, ".")
-    return f"Rattle·{crate}·{part}.{part}.{inside}", f"Rattle·{crate}.{part}.{inside}"
+    return f"Rattle.{crate}.{part}.{inside}"
 
 
 def told():
@@ -104,18 +98,18 @@ def told():
 def used_elsewhere(name, own, source, everything):
     if occurs(name, source.counted - own):
         return True
-    inside, above = module_names(source.path)
-    return any(other.uses(inside, name) or other.uses(above, name) for other in everything if other is not source)
+    module = module_name(source.path)
+    return any(other.uses(module, name) for other in everything if other is not source)
 
 
 def unused(listed):
-    """The definitions that no other place uses and no document names. A function's own `..-spec` is the checker's."""
+    """The definitions that no other place uses and no document names. What a proof folder of a function has is the checker's."""
     everything, documents, found = sources(listed), told(), []
     for source in everything:
-        if not source.path.endswith(".antt"):
+        if not source.path.endswith(".antt") or os.path.basename(source.path) in ("Proof.antt", "Answers.antt", "Invariants.antt"):
             continue
         for name, own in definitions(source):
-            if name.endswith("-spec") or documents[name] or used_elsewhere(name, own, source, everything):
+            if documents[name] or used_elsewhere(name, own, source, everything):
                 continue
             found.append(f"{here(source.path)}: {name}")
     return found
