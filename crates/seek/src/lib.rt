@@ -1,2 +1,4 @@
 // The search for the best set, over any scores and any clashes of results.
+#![tactic(auto)]
+
 pub mod search;

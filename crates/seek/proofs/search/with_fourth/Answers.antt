@@ -1,8 +1,7 @@
-use Prim.Native.Nat.{◌-◌}
 use native.Mathlib.Omega.{arith}
 use mathlib.Core.Path.{refl}
-use mathlib.Core.Logic.{⊎_elim}
 use Rattle.seek.proofs.Steps.{held_in_lem, short, passes_over, more, joins, after, sum_fits}
+use Rattle.seek.proofs.search.with_fourth.Goals.{then-may_join, else-may_join}
 use Rattle.seek.proofs.search.with_fourth.Goals as goal
 
 pub overflow_add-sum : goal.overflow_add-sum
@@ -19,10 +18,10 @@ pub loop-i-preserved : goal.loop-i-preserved
 loop-i-preserved c =
     let w = held_in_lem c.requires.sought in
     let s = c.loop-i.invariant in
-    ⊎_elim
-    (λ v. rw v.3 (after w s (omega arith) (rw v.0.taken at c.may_join.ensures) refl v.2.ensures))
-    (λ v. rw v.1 (passes_over w s (omega arith) (rw v.0.left at c.may_join.ensures)))
-    c.if-may_join.branch
+    elim c.if-may_join.branch [
+      | then-may_join v ↦ rw v.best-is (after w s (omega arith) (rw v.if-may_join.true at c.may_join.ensures) refl v.with_fifth-best.ensures)
+      | else-may_join v ↦ rw v.best-is (passes_over w s (omega arith) (rw v.if-may_join.false at c.may_join.ensures))
+    ]
 
 pub returns : goal.returns
 returns c =
