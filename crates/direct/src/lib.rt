@@ -1,4 +1,6 @@
 // Placing by direct count.
+#![tactic(auto)]
+
 ghost use Rattle.std.specs.Prelude.{◌≡◌, ◌≤◌, length};
 ghost use Rattle.paper.specs.Limits.{most_tallied};
 ghost use Rattle.tally.specs.Counts.{at_least};

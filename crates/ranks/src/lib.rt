@@ -1,4 +1,6 @@
 // For each value its rank and its percentile.
+#![tactic(auto)]
+
 ghost use Rattle.ranks.specs.Promise.{lent, Ranked, Promise};
 ghost use Rattle.ranks.specs.Inner.{Fillable};
 

@@ -1,4 +1,6 @@
 // The counts of aggregates, their sums, and the walk that turns them into bands and the remainder.
+#![tactic(auto)]
+
 ghost use Rattle.std.specs.Prelude.{◌≡◌, ◌≤◌, length, replicate};
 ghost use Rattle.paper.specs.Limits.{most_tallied};
 ghost use Rattle.paper.specs.Lists.{sum_of};

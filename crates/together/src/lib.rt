@@ -1,4 +1,6 @@
 // Ranks and bands over the tally.
+#![tactic(auto)]
+
 ghost use Rattle.std.specs.Prelude.{◌≡◌};
 ghost use Rattle.ranks.specs.Ranking.{ranks_of, percentiles_of};
 ghost use Rattle.tally.specs.Counts.{tally_of};

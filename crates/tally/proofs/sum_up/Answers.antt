@@ -1,4 +1,3 @@
-use Prim.Native.Nat.{◌-◌}
 use native.Mathlib.Omega.{arith}
 use Rattle.tally.proofs.Turns.{summed_start, summed_most, summed_next, summed_end}
 use Rattle.tally.proofs.sum_up.Goals as goal

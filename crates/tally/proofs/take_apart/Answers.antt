@@ -1,4 +1,3 @@
-use Prim.Native.Nat.{◌-◌}
 use native.Mathlib.Omega.{arith}
 use Rattle.tally.proofs.Turns.{parted_end}
 use Rattle.tally.proofs.take_apart.Goals as goal

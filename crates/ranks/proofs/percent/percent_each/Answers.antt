@@ -1,7 +1,5 @@
-use Prim.Native.Nat.{◌-◌}
 use native.Mathlib.Omega.{arith}
 use lib.ListN.{length, get_or}
-use Rattle.ranks.specs.Ranking.{percentile}
 use Rattle.ranks.proofs.Meaning.{percentile-within}
 use Rattle.paper.proofs.Filling.{all_filled}
 use Rattle.ranks.proofs.percent.percent_each.Goals as goal

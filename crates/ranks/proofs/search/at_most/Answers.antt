@@ -1,4 +1,3 @@
-use Prim.Native.Nat.{◌-◌}
 use native.Mathlib.Omega.{arith}
 use Rattle.ranks.proofs.Counting.{at-found}
 use Rattle.ranks.proofs.search.at_most.Goals as goal

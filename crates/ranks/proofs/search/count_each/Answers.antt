@@ -1,8 +1,6 @@
 use Rattle.ranks.proofs.Counting.{at-within}
-use Prim.Native.Nat.{◌-◌}
 use native.Mathlib.Omega.{arith}
 use lib.ListN.{get_or}
-use Rattle.ranks.specs.Ranking.{at_most}
 use Rattle.paper.proofs.Filling.{all_filled}
 use Rattle.ranks.proofs.search.count_each.Goals as goal
 

@@ -4,4 +4,4 @@ use Rattle.tally.proofs.search.go_on.Goals as goal
 
 pub returns-then-fits : goal.returns-then-fits
 returns-then-fits c =
-    search_fits c.requires (sym c.fits2.ensures ∙ c.if-fits.true)
+    search_fits c.requires (sym c.fits.ensures ∙ c.if-fits.true)

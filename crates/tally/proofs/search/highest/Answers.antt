@@ -1,10 +1,8 @@
-use Prim.Native.Nat.{◌*◌}
 use native.Mathlib.Omega.{arith}
 use mathlib.Core.Path.{sym, ◌∙◌}
-use mathlib.Core.Logic.{⊎_elim}
-use Rattle.tally.specs.InnerSearch.{Reaches}
 use Rattle.tally.proofs.Reaching.{search_sum, sum-most, search_down, search_bottom, search_fits}
 use Rattle.tally.proofs.search.highest.Goals as goal
+use Rattle.tally.proofs.search.highest.Goals.{then-k-eq0, else-k-eq0+then-fits}
 
 pub loop-k-init : goal.loop-k-init
 loop-k-init c =
@@ -20,7 +18,7 @@ overflow_add-sum c =
 
 pub loop-k-preserved : goal.loop-k-preserved
 loop-k-preserved c =
-    search_down c.loop-k.invariant (omega arith) (rw c.places_of.ensures at (sym c.fits2.ensures ∙ c.if-fits.false)) c.wide32-sum.ensures.0
+    search_down c.loop-k.invariant (omega arith) (rw c.places_of.ensures at (sym c.fits.ensures ∙ c.if-fits.false)) c.wide32-sum.ensures.0
 
 pub places_of-requires-2 : goal.places_of-requires-2
 places_of-requires-2 c =
@@ -28,7 +26,8 @@ places_of-requires-2 c =
 
 pub returns : goal.returns
 returns c =
-    rw c.places_of-2.ensures ((let reached : let d = c.args in Reaches d.table.now d.population d.c c.if-k-eq0.band c.loop-k.sum (d.population * c.loop-k.sum) = let at = c.loop-k.invariant in
-    ⊎_elim (λ w. rw w.1 (search_bottom at w.0.taken))
-    (λ w. rw w.4 (search_fits at (rw w.1.ensures at (sym w.2.ensures ∙ w.3.taken))))
-    c.if-k-eq0.branch in reached))
+    let at = c.loop-k.invariant in
+    rw c.places_of-2.ensures (elim c.if-k-eq0.branch [
+      | then-k-eq0 w ↦ rw w.band-is (search_bottom at w.if-k-eq0.true)
+      | else-k-eq0+then-fits w ↦ rw w.band-is (search_fits at (rw w.places_of.ensures at (sym w.fits.ensures ∙ w.if-fits.true)))
+    ])
