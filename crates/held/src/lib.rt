@@ -1,4 +1,6 @@
 // What a cohort file is, what it holds and what its reader promises: definitions, theorems and values, and no function.
+#![tactic(auto)]
+
 use paper::refusal::Refusal;
 
 // What is told of a file: the year, the numbers of subjects and students, Y and r.

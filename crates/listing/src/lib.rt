@@ -1,4 +1,6 @@
 // The lines of the office's listing.
+#![tactic(auto)]
+
 ghost use Rattle.paper.specs.Rulings.{number_of, place_of};
 ghost use Rattle.paper.specs.Refusals.{fault};
 ghost use Rattle.listing.specs.Lines.{Shows, cohort_line, student_line, refused_line, file_line};
