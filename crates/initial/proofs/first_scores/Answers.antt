@@ -33,9 +33,17 @@ total-total-requires c =
 pub returns : goal.returns
 returns c =
     let a = c.args in
-    let there = c.if-table-subject.false in
-    let row = c.fill.new.row in
+    let n = a.counts.now in
+    -- no rule before the total is broken
+    let not_short : a.kind =? short_course ≡ false = ne_eqb _ _ c.if-kind.false in
+    let known : within general vet a.kind ≡ true = sym (c.within.ensures ∙ ap (within general vet) c.wide32.ensures.0) ∙ c.if-not-within.false in
+    let there : rows a.table.now ≤? a.subject ≡ false = lt-leb _ _ c.if-table-subject.false in
+    let counted : length n =? asked a.kind ≡ true = eq-eqb _ _ (c.if-counts-asked.false ∙ c.asked.ensures) in
+    let whole : length a.table.now % row_bytes =? 0 ≡ true = eq-eqb _ _ c.if-table-ne0.false in
+    let none : some_over most_count n ≡ false = le-ltb (first_over most_count n) (length n) (omega (arith, c.first_over-over.ensures, c.if-over-counts.false)) in
+    -- only the total is left to rule
+    let left : ruling a.kind a.subject n a.table.now ≡ judged {A = Unit {0}} (most_count <? total n ⇒ 15 at 0 ∷ []) tt = simp (not_short, known, there, counted, whole, none) refl in
     record {
-      says = sym ((let left-total : let a = c.args in ruling a.kind a.subject a.counts.now a.table.now ≡ judged {A = Unit {0}} (most_count <? total a.counts.now ⇒ 15 at 0 ∷ []) tt = simp ((let not_short : c.args.kind =? short_course ≡ false = ne_eqb _ _ c.if-kind.false in not_short), (let known : within general vet c.args.kind ≡ true = sym ((let kind-within : c.within.result ≡ within general vet c.args.kind = c.within.ensures ∙ ap (within general vet) c.wide32.ensures.0 in kind-within)) ∙ c.if-not-within.false in known), (let there : let a = c.args in rows a.table.now ≤? a.subject ≡ false = lt-leb _ _ c.if-table-subject.false in there), (let counted : let a = c.args in length a.counts.now =? asked a.kind ≡ true = eq-eqb _ _ (c.if-counts-asked.false ∙ c.asked.ensures) in counted), (let whole : length c.args.table.now % row_bytes =? 0 ≡ true = eq-eqb _ _ c.if-table-ne0.false in whole), (let none : some_over most_count c.args.counts.now ≡ false = let n = c.args.counts.now in le-ltb (first_over most_count n) (length n) (omega (arith, c.first_over-over.ensures, c.if-over-counts.false)) in none)) refl in left-total) ∙ simp (← c.total-total.ensures, le-ltb most_count c.total-total.result (omega (arith, c.wide32-2.ensures.0, c.if-wide32-total.false))) refl);
-      leaves = row_put a.table.now a.subject row there (ap length c.fill.ensures ∙ length-for a.kind a.counts.now) ∙ ap (with_row a.table.now a.subject) c.fill.ensures;
+      says = sym (left ∙ simp (← c.total-total.ensures, le-ltb most_count c.total-total.result (omega (arith, c.wide32-2.ensures.0, c.if-wide32-total.false))) refl);
+      leaves = row_put a.table.now a.subject c.fill.new.row c.if-table-subject.false (ap length c.fill.ensures ∙ length-for a.kind n) ∙ ap (with_row a.table.now a.subject) c.fill.ensures;
     }
