@@ -8,7 +8,7 @@ use mathlib.Core.Logic.{⊎_elim}
 use mathlib.Core.List.{List}
 use borrow.Author.Tests.{ltb-false, leb-true, eqb-true, eqb-false, not-true, eq-eqb, ne_eqb, le-ltb}
 use Rattle.paper.specs.Limits.{most_results, most_span}
-use Rattle.paper.specs.Lists.{pick, some}
+use Rattle.paper.specs.Lists.{pick}
 use Rattle.paper.specs.Words.{◌≤?◌, ◌=?◌, ◌≠?◌}
 use Rattle.paper.proofs.Booleans.{both_true, true_both, not_both, true_not}
 use Rattle.catalogue.specs.Kinds.{english, mathematics, general, external_examination, applied}

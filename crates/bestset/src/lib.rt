@@ -1,4 +1,6 @@
 // One student: the best set of five results, or why there is none.
+#![tactic(auto)]
+
 ghost use Rattle.std.specs.Prelude.{◌≡◌};
 ghost use Rattle.results.specs.Results.{student};
 ghost use Rattle.sets.specs.Promise.{said, aggregate_of, Promise};

@@ -1,4 +1,6 @@
 // First scaled scores of a subject, from how many students have each raw result.
+#![tactic(auto)]
+
 ghost use Rattle.firsts.specs.Promise.{Promise};
 
 use catalogue::kinds::{GENERAL, SHORT_COURSE, VET};
