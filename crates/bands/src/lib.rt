@@ -1,4 +1,6 @@
 // The placing of students in bands: by direct count, and over the tally with their ranks.
+#![tactic(auto)]
+
 ghost use Rattle.placements.specs.Promise.{Promise, lent, TogetherPromise};
 
 use paper::screening::Verdict;
