@@ -1,4 +1,6 @@
 // The lines of the students, from what is noted of each.
+#![tactic(auto)]
+
 ghost use Rattle.std.specs.Prelude.{◌≡◌, ◌*◌, ◌≤◌, length, get_or};
 ghost use Rattle.listing.specs.Lines.{student_line, Shows, line_bytes};
 ghost use Rattle.printed.specs.InnerCohorts.{columns};

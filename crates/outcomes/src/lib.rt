@@ -1,4 +1,6 @@
 // Each student's outcome, once: the aggregates of the eligible, the number and the place of each refusal.
+#![tactic(auto)]
+
 ghost use Rattle.std.specs.Prelude.{◌≡◌, ◌+◌, ◌*◌, ◌≤◌, ◌<◌, length};
 ghost use Rattle.paper.specs.Limits.{result_bytes};
 ghost use Rattle.paper.specs.Rulings.{number_in, place_in};
