@@ -31,32 +31,38 @@ fn mature(english: u16, subject: u8, year: u16) -> Results {
 
 // Who has results of many years.
 fn spans(out: Stdout, table: &[u8; TABLE]) {
-    pupils::best(out, 
+    pupils::best(
+        out,
         b"a span of four, 2017 to 2021: ",
         table,
         six(b'C', 90, 2017),
     );
-    pupils::best(out, 
+    pupils::best(
+        out,
         b"a span of five, 2016 to 2021: ",
         table,
         six(b'C', 90, 2016),
     );
-    pupils::best(out, 
+    pupils::best(
+        out,
         b"2012 to 2016, and Geography of 1990: ",
         table,
         mature(2012, pupils::GEOGRAPHY, 1990),
     );
-    pupils::best(out, 
+    pupils::best(
+        out,
         b"2011 to 2016, and Geography of 1990: ",
         table,
         mature(2011, pupils::GEOGRAPHY, 1990),
     );
-    pupils::best(out, 
+    pupils::best(
+        out,
         b"English of 1990, and 2013 to 2017: ",
         table,
         mature(1990, pupils::GEOGRAPHY, 2017),
     );
-    pupils::best(out, 
+    pupils::best(
+        out,
         b"2012 to 2016, and English again in 2021: ",
         table,
         mature(2012, pupils::ENGLISH, 2021),

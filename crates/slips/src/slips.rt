@@ -31,12 +31,14 @@ fn eight() -> Results {
 // Of sets.
 fn sets(out: Stdout) {
     let table = pupils::scores();
-    pupils::best(out, 
+    pupils::best(
+        out,
         b"not five highest first, rules after: student 7 ",
         &table,
         seven(),
     );
-    pupils::best(out, 
+    pupils::best(
+        out,
         b"not dropping the lower of two clashing: student 8 ",
         &table,
         eight(),
@@ -72,7 +74,8 @@ fn tied(out: Stdout) {
     let aggregates = [40000u32, 40000, 30000];
     let mut bands = [0u16; 3];
     let answer = bands::place(&aggregates, &full, 2000, &mut bands);
-    placed(out, 
+    placed(
+        out,
         b"not splitting tied students, by direct count: ",
         answer,
         &bands,
@@ -90,7 +93,8 @@ fn tied(out: Stdout) {
         &mut others,
         &mut counts,
     );
-    placed(out, 
+    placed(
+        out,
         b"not splitting tied students, in one call with their ranks: ",
         again,
         &others,

@@ -68,13 +68,15 @@ pub(crate) fn run(out: Stdout) {
     row(out, b"Andrew", values[4], ranks[4], percentiles[4]);
     row(out, b"Linh", values[5], ranks[5], percentiles[5]);
     row(out, b"Lauren", values[6], ranks[6], percentiles[6]);
-    row(out, 
+    row(
+        out,
         b"Anna",
         values[STUDENTS - 2],
         ranks[STUDENTS - 2],
         percentiles[STUDENTS - 2],
     );
-    row(out, 
+    row(
+        out,
         b"Nathan",
         values[STUDENTS - 1],
         ranks[STUDENTS - 1],
