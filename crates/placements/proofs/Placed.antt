@@ -79,7 +79,7 @@ module _ (aggregates table : List ℕ) (Y : ℕ) (bands : List ℕ) (e : length 
     within = λ i l. (hi i l).within;
     order = λ i j li lj h. omega (arith, up i j li lj (omega arith));
     ties = λ i j li lj h. omega (arith, up i j li lj (omega arith), up j i lj li (omega arith));
-    room = room;
+    room = λ k h l. room k (omega arith) l;
   }
 
   under : (others : List ℕ) → Keeps aggregates table Y others → (i : ℕ) → i < length aggregates → get_or others i 0 ≤ get_or bands i 0
