@@ -1,4 +1,6 @@
 // A whole file to its listing.
+#![tactic(auto)]
+
 ghost use Rattle.std.specs.Prelude.{◌≡◌, length};
 ghost use Rattle.curve.specs.Curve.{table_of};
 ghost use Rattle.printed.specs.Sizes.{text_bytes};
