@@ -1,4 +1,6 @@
 // The office's program: a cohort file on standard input, its listing on standard output.
+#![tactic(auto)]
+
 ghost use Rattle.estimate.specs.Input.{Within};
 
 use paper::limits::MOST_BYTES;
