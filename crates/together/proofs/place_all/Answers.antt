@@ -35,6 +35,8 @@ band_each-requires c =
       lent = h.lent;
     }
 
+-- counting again asks for the students,
+-- and for as many counts as there were
 pub count-requires : goal.count-requires
 count-requires c = record { students = c.requires.ready.students; long = walk-long ((goal.at.count-requires c).After-walk-remainder) }
 
