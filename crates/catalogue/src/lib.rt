@@ -1,4 +1,6 @@
 // What a catalogue entry means, its ranges, and the test of a whole catalogue.
+#![tactic(auto)]
+
 ghost use Rattle.catalogue.specs.Promise.{Promise};
 
 use paper::limits::{ENTRY_BYTES, MOST_SUBJECTS};

@@ -2,7 +2,6 @@ use Rattle.catalogue.specs.Catalogue.{subjects, outside, outside_at}
 use Rattle.paper.proofs.Firsts.{first-here, first-none}
 use mathlib.Core.Path.{◌≡◌, sym, ap, ◌∙◌}
 use native.Mathlib.Omega.{arith}
-use Prim.Native.Nat.{◌-◌}
 use Rattle.catalogue.proofs.entries.first_outside.Goals as goal
 
 pub returns-then-is_outside : goal.returns-then-is_outside

@@ -1,4 +1,4 @@
-use Rattle.catalogue.specs.Catalogue.{subjects, outside, outside_at}
+use Rattle.catalogue.specs.Catalogue.{subjects, outside_at}
 use mathlib.Core.Bool.{false}
 use mathlib.Core.Path.{◌≡◌}
 use Prim.Native.Nat.{ℕ, ◌-◌, ◌≤◌, ◌<◌}

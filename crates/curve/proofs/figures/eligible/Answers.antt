@@ -3,7 +3,7 @@ use Rattle.paper.specs.Limits.{ages}
 use Rattle.paper.specs.Lists.{sum}
 use Rattle.paper.proofs.Listing.{sum_step}
 use native.Mathlib.Omega.{arith}
-use Prim.Native.Nat.{ℕ, ◌+◌, ◌-◌}
+use Prim.Native.Nat.{ℕ, ◌+◌}
 use mathlib.Core.Path.{◌≡◌, refl, ap, ◌∙◌}
 use Rattle.curve.proofs.figures.eligible.Goals as goal
 

@@ -1,4 +1,4 @@
-use Rattle.curve.specs.Population.{E, Eof}
+use Rattle.curve.specs.Population.{Eof}
 use Rattle.paper.specs.Limits.{ages, most_figure}
 use Rattle.paper.specs.Lists.{sum}
 use Prim.Native.Nat.{◌*◌, ◌-◌, ◌≤◌}

@@ -4,7 +4,7 @@ use Rattle.paper.specs.Lists.{sum}
 use Rattle.paper.proofs.Listing.{sum_step}
 use native.Mathlib.Omega.{arith}
 use native.Mathlib.Nat.{mul-le-mul}
-use Prim.Native.Nat.{ℕ, ◌+◌, ◌*◌, ◌-◌, ◌≤◌}
+use Prim.Native.Nat.{ℕ, ◌+◌, ◌*◌, ◌≤◌}
 use mathlib.Core.Path.{◌≡◌, refl, ap, ◌∙◌}
 use Rattle.curve.proofs.figures.weighted.Goals as goal
 
@@ -16,12 +16,18 @@ loop-age-init c =
 pub loop-age-preserved : goal.loop-age-preserved
 loop-age-preserved c =
     let f = c.args.figures.now in
-    let age = c.loop-age.age in
-    (omega arith, rw (c.wide32-q.ensures.0, c.wide32-e.ensures.0) (omega (arith, sum_step age (λ i. Qof f i * Eof f i))), omega (arith, (let product : c.wide32-q.result * c.wide32-e.result ≤ most_figure * most_figure = let each = c.requires.each in
-    let age = c.loop-age.age in
-    let q : c.wide32-q.result ≤ most_figure = omega (arith, each age) in
-    let e : c.wide32-e.result ≤ most_figure = omega (arith, each (age + ages)) in
-    mul-le-mul q e in product)))
+    let age = c.loop-age.age in (
+      omega arith,
+      rw (c.wide32-q.ensures.0, c.wide32-e.ensures.0) (omega (arith, sum_step age (λ i. Qof f i * Eof f i))),
+      omega (
+        arith,
+        (let product : c.wide32-q.result * c.wide32-e.result ≤ most_figure * most_figure = let each = c.requires.each in
+            let age = c.loop-age.age in
+            let q : c.wide32-q.result ≤ most_figure = omega (arith, each age) in
+            let e : c.wide32-e.result ≤ most_figure = omega (arith, each (age + ages)) in
+            mul-le-mul q e in product),
+      ),
+    )
 
 pub returns : goal.returns
 unfolding S

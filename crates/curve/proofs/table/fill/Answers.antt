@@ -1,6 +1,5 @@
 use Rattle.curve.specs.Curve.{table_of}
 use Rattle.paper.proofs.Filling.{all_filled}
-use Prim.Native.Nat.{◌-◌}
 use Rattle.curve.proofs.table.fill.Goals as goal
 
 pub returns : goal.returns
