@@ -1,1 +1,3 @@
+#![tactic(auto)]
+
 // The office's example file and its listing, as one theorem.

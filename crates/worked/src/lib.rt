@@ -1,1 +1,3 @@
+#![tactic(auto)]
+
 // The worked examples of the paper, as one theorem.
