@@ -2,7 +2,7 @@
 use Rattle.std.specs.Prelude.{ℕ, ◌+◌, ◌*◌, ◌%◌, Bool, not, ◌&&◌, List, [], ◌∷◌, length}
 use Rattle.paper.specs.Limits.{entry_bytes, most_subjects}
 use Rattle.paper.specs.Lists.{first, some}
-use Rattle.paper.specs.Words.{◌≤?◌, ◌<?◌, ◌=?◌, ◌≠?◌, if◌then◌else◌}
+use Rattle.paper.specs.Words.{◌≤?◌, ◌<?◌, ◌=?◌, ◌≠?◌, when◌then◌else◌}
 use Rattle.paper.specs.Ranges.{within}
 use Rattle.paper.specs.Bytes.{byte, word, records}
 use Rattle.paper.specs.Rulings.{Rule, ◌⇒◌, ◌at◌}
@@ -28,15 +28,15 @@ kind_fits entry = within general vet entry.kind
 
 -- strand: none, English or Mathematics; a short course and VET have none
 abbrev pub strand_fits : Entry → Bool
-strand_fits entry = if short_course ≤? entry.kind then entry.strand =? 0 else entry.strand ≤? mathematics
+strand_fits entry = when short_course ≤? entry.kind then entry.strand =? 0 else entry.strand ≤? mathematics
 
 -- level: for VET from Certificate I to the Advanced Diploma; otherwise 0
 abbrev pub level_fits : Entry → Bool
-level_fits entry = if is_vet entry.kind then within certificate_i advanced_diploma entry.level else entry.level =? 0
+level_fits entry = when is_vet entry.kind then within certificate_i advanced_diploma entry.level else entry.level =? 0
 
 -- identity: 1 or more for the kinds that have one; otherwise 0
 abbrev pub identity_fits : Entry → Bool
-identity_fits entry = if is_identified entry.kind then 1 ≤? entry.identity else entry.identity =? 0
+identity_fits entry = when is_identified entry.kind then 1 ≤? entry.identity else entry.identity =? 0
 
 -- an entry is outside its ranges
 unfoldable pub outside : Entry → Bool

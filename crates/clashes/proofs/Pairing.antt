@@ -13,7 +13,7 @@ use lib.Seq.{get_or-set_same, get_or-set_other}
 use borrow.Author.Count.{below_more}
 use borrow.Author.Tests.{ltb-true, eqb-true, eqb-false, eq-eqb}
 use Rattle.paper.specs.Limits.{most_results}
-use Rattle.paper.specs.Words.{◌<?◌, ◌=?◌, if◌then◌else◌}
+use Rattle.paper.specs.Words.{◌<?◌, ◌=?◌, when◌then◌else◌}
 use Rattle.paper.proofs.Booleans.{both_true, true_both, first-false}
 use Rattle.paper.proofs.Firsts.{some_at, none_has, some-not}
 use Rattle.seek.specs.Sets.{In, has}
@@ -45,7 +45,7 @@ holds_or {f} {g} {a = a} {b = b} p q =
 holds_where : (one other i n : ℕ) → HoldsBelow (across one other i) n (where_in one other i)
 holds_where one other i n = go (has one i)
   where
-    go : (b : Bool) → HoldsBelow (λ j. b && has other j) n (if b then other else 0)
+    go : (b : Bool) → HoldsBelow (λ j. b && has other j) n (when b then other else 0)
     go true = record { sound = λ j l p. eq-eqb _ _ p; whole = λ j l e. eqb-true _ _ e }
     go false = record { sound = λ j l p. absurd (in_none j p); whole = λ j l e. absurd (true≢false (sym e)) }
 

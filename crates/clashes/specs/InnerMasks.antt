@@ -1,7 +1,7 @@
 -- Masks of results, bit i for result i.
 use Rattle.std.specs.Prelude.{ℕ, ◌*◌, ◌%◌, ◌^◌, ◌<◌, ◌≡◌, Bool, true}
 use Rattle.std.specs.Int.Bits.{bit_or}
-use Rattle.paper.specs.Words.{if◌then◌else◌}
+use Rattle.paper.specs.Words.{when◌then◌else◌}
 use Rattle.seek.specs.Sets.{In}
 
 -- of the results below n a mask holds those of f, and those alone
@@ -12,4 +12,4 @@ pub record MaskOf (f : ℕ → Bool) (n mask : ℕ) : Type 0 where
 
 -- a mask with result i, if it is of the sort
 abbrev pub marked : ℕ → ℕ → Bool → ℕ
-marked mask i belongs = if belongs then bit_or mask (1 * 2 ^ i % 65536) else mask
+marked mask i belongs = when belongs then bit_or mask (1 * 2 ^ i % 65536) else mask

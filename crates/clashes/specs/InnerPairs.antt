@@ -3,7 +3,7 @@ use Rattle.std.specs.Prelude.{ℕ, ◌+◌, ◌≤◌, ◌<◌, ◌≡◌, Bool,
 use Rattle.std.specs.Int.Bits.{bit_and, bit_or, bit_xor}
 use Rattle.paper.specs.Limits.{most_results, most_span}
 use Rattle.paper.specs.Lists.{first, some}
-use Rattle.paper.specs.Words.{◌<?◌, ◌=?◌, ◌≠?◌, if◌then◌else◌}
+use Rattle.paper.specs.Words.{◌<?◌, ◌=?◌, ◌≠?◌, when◌then◌else◌}
 use Rattle.seek.specs.Sets.{In, has}
 use Rattle.seek.specs.InnerTest.{value_at}
 use Rattle.results.specs.Results.{held_in, subject_of, year_of}
@@ -102,7 +102,7 @@ without mask gone = bit_xor mask (bit_and mask gone)
 
 -- a mask, where result i is in another; else none
 abbrev pub where_in : ℕ → ℕ → ℕ → ℕ
-where_in one other i = if has one i then other else 0
+where_in one other i = when has one i then other else 0
 
 -- those that clash with result i by their sorts
 abbrev pub by_sorts : Masks → ℕ → ℕ

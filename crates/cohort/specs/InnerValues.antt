@@ -1,7 +1,7 @@
 -- What a field adds to the numbers and the buffers, by its tag, and what that asks.
 use Rattle.std.specs.Prelude.{ℕ, ◌+◌, ◌-◌, ◌*◌, ◌≤◌, ◌<◌, ◌≡◌, Bool, List, length, get_or, set}
 use Rattle.paper.specs.Limits.{entry_bytes, result_bytes, slots, most_subjects, most_students, most_results, results_bytes}
-use Rattle.paper.specs.Words.{◌=?◌, ◌≠?◌, if◌then◌else◌}
+use Rattle.paper.specs.Words.{◌=?◌, ◌≠?◌, when◌then◌else◌}
 use Rattle.paper.specs.Bytes.{byte, word, long}
 use Rattle.paper.specs.Parts.{laid}
 use Rattle.paper.specs.Rulings.{accepted, Rule, judged}
@@ -17,7 +17,7 @@ NoneBroken rules = judged {A = Unit {0}} rules tt ≡ accepted tt
 
 -- 10 for 10, and 9 for another number
 abbrev pub nine_or_ten : ℕ → ℕ
-nine_or_ten n = if n =? 10 then 10 else 9
+nine_or_ten n = when n =? 10 then 10 else 9
 
 -- a slot of a subject that a file may have
 pub record Slotted (subject slot : ℕ) : Type 0 where
@@ -34,16 +34,16 @@ is_marked marks subject slot = get_or marks (slot_place subject slot) 0 ≠? 0
 
 -- what is noted: the marks of the slots that have their score, the score table, and the ids
 abbrev pub marks_with : ℕ → List ℕ → List ℕ → List ℕ
-marks_with tag v marks = if tag =? 3 then set marks (slot_place (word v 0) (byte v 2)) 1 else marks
+marks_with tag v marks = when tag =? 3 then set marks (slot_place (word v 0) (byte v 2)) 1 else marks
 
 abbrev pub table_with : Far → ℕ → List ℕ → List ℕ → List ℕ
 table_with far tag v table =
-    if tag =? 2 then cleared table far.subjects
-    else if tag =? 3 then stored table (word v 0) (byte v 2) (long v 3)
+    when tag =? 2 then cleared table far.subjects
+    else when tag =? 3 then stored table (word v 0) (byte v 2) (long v 3)
     else table
 
 abbrev pub ids_with : Far → ℕ → List ℕ → List ℕ → List ℕ
-ids_with far tag v ids = if tag =? 5 then set ids far.students (long v 0) else ids
+ids_with far tag v ids = when tag =? 5 then set ids far.students (long v 0) else ids
 
 -- the numbers
 abbrev pub year_to : SoFar → List ℕ → SoFar
@@ -56,7 +56,7 @@ abbrev pub result_to : SoFar → SoFar
 result_to so = record { far = so.far; year = so.year; results = so.results + 1; population = so.population; rate = so.rate }
 
 abbrev pub numbers_with : SoFar → ℕ → List ℕ → SoFar
-numbers_with so tag v = if tag =? 1 then year_to so v else if tag =? 4 then figures_to so v else if tag =? 6 then result_to so else so
+numbers_with so tag v = when tag =? 1 then year_to so v else when tag =? 4 then figures_to so v else when tag =? 6 then result_to so else so
 
 -- the buffers beside what is noted
 pub record Rest : Type 0 where
@@ -70,13 +70,13 @@ rest a b c d = record { catalogue = a; figures = b; counts = c; results = d }
 
 abbrev pub rest_with : SoFar → ℕ → List ℕ → Rest → Rest
 rest_with so tag v b = record {
-  catalogue = if tag =? 2 then laid b.catalogue (so.far.subjects * entry_bytes) v else b.catalogue;
-  figures = if tag =? 4 then figures_in v else b.figures;
+  catalogue = when tag =? 2 then laid b.catalogue (so.far.subjects * entry_bytes) v else b.catalogue;
+  figures = when tag =? 4 then figures_in v else b.figures;
   counts =
-      if tag =? 5 then set b.counts so.far.students 0
-      else if tag =? 6 then set b.counts (so.far.students - 1) (so.far.latest + 1)
+      when tag =? 5 then set b.counts so.far.students 0
+      else when tag =? 6 then set b.counts (so.far.students - 1) (so.far.latest + 1)
       else b.counts;
-  results = if tag =? 6 then laid b.results (so.results * result_bytes) v else b.results;
+  results = when tag =? 6 then laid b.results (so.results * result_bytes) v else b.results;
 }
 
 -- there is a student, and a result more has room

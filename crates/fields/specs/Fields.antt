@@ -1,7 +1,7 @@
 -- The fields of a cohort file: a tag of one byte, a length of two, a value of that length.
 use Rattle.std.specs.Prelude.{ℕ, zero, suc, ◌+◌, ◌*◌, List, [], ◌∷◌, ◌++◌, length, take, drop}
 use Rattle.paper.specs.Limits.{entry_bytes, result_bytes, figure_bytes, figure_count, slot_bytes}
-use Rattle.paper.specs.Words.{◌≤?◌, ◌<?◌, ◌=?◌, if◌then◌else◌}
+use Rattle.paper.specs.Words.{◌≤?◌, ◌<?◌, ◌=?◌, when◌then◌else◌}
 use Rattle.paper.specs.Bytes.{byte, word, word_bytes}
 
 pub record Field : Type 0 where
@@ -38,7 +38,7 @@ past file p = p + head_bytes + word file (p + 1)
 -- what stands from offset p on, n pieces at most
 unfoldable pub pieces : ℕ → List ℕ → ℕ → List Piece
 pieces zero file p = []
-pieces (suc n) file p = if length file ≤? p then [] else if length file <? past file p then cut p ∷ [] else whole p (field_at file p) ∷ pieces n file (past file p)
+pieces (suc n) file p = when length file ≤? p then [] else when length file <? past file p then cut p ∷ [] else whole p (field_at file p) ∷ pieces n file (past file p)
 
 -- all that stands in a file: no more pieces than it has bytes
 abbrev pub pieces_of : List ℕ → List Piece
@@ -74,10 +74,10 @@ id_bytes = 4
 -- the bytes that the value of a tag has: year, catalogue entry, score, figures, student, result; of another tag 0, which is refused for itself
 abbrev pub length_of : ℕ → ℕ
 length_of tag =
-    if tag =? 1 then year_bytes
-    else if tag =? 2 then entry_bytes
-    else if tag =? 3 then score_bytes
-    else if tag =? 4 then figure_count * figure_bytes
-    else if tag =? 5 then id_bytes
-    else if tag =? 6 then result_bytes
+    when tag =? 1 then year_bytes
+    else when tag =? 2 then entry_bytes
+    else when tag =? 3 then score_bytes
+    else when tag =? 4 then figure_count * figure_bytes
+    else when tag =? 5 then id_bytes
+    else when tag =? 6 then result_bytes
     else 0

@@ -10,7 +10,7 @@ use lib.ListN.{length}
 use borrow.Author.Tests.{eqb-true, ne_eqb, lt-ltb, le-ltb}
 use Rattle.paper.specs.Limits.{row_bytes, missing, score_parts, top_score}
 use Rattle.paper.specs.Lists.{pick, first}
-use Rattle.paper.specs.Words.{◌<?◌, ◌=?◌, if◌then◌else◌}
+use Rattle.paper.specs.Words.{◌<?◌, ◌=?◌, when◌then◌else◌}
 use Rattle.catalogue.specs.Kinds.{vet, is_vet}
 use Rattle.scores.specs.Rows.{row_of, missing_row}
 use Rattle.scores.proofs.Slotted.{length-row, missing-row}
@@ -23,7 +23,7 @@ use Rattle.firsts.proofs.Slotting.{in_own}
 module _ (kind : ℕ) (counts : List ℕ) where
   -- what a slot of the row holds
   unfoldable pub in_slot : ℕ → ℕ
-  in_slot slot = if is_vet kind then vet_in slot else if total counts =? 0 then missing else score_among kind counts (length counts) slot
+  in_slot slot = when is_vet kind then vet_in slot else when total counts =? 0 then missing else score_among kind counts (length counts) slot
 
   pub row_is : row_for kind counts ≡ row_of in_slot
   unfolding row_for in_slot score_in score_among

@@ -2,7 +2,7 @@
 use Rattle.std.specs.Prelude.{ℕ, List}
 use Rattle.paper.specs.Limits.{missing}
 use Rattle.paper.specs.Lists.{first}
-use Rattle.paper.specs.Words.{◌<?◌, ◌=?◌, if◌then◌else◌}
+use Rattle.paper.specs.Words.{◌<?◌, ◌=?◌, when◌then◌else◌}
 use Rattle.firsts.specs.Counts.{score}
 use Rattle.firsts.specs.Row.{slot_for}
 
@@ -10,4 +10,4 @@ use Rattle.firsts.specs.Row.{slot_for}
 unfoldable pub score_among : ℕ → List ℕ → ℕ → ℕ → ℕ
 score_among kind counts n slot =
     let j = first n (λ i. slot_for kind i =? slot) in
-    if j <? n then score counts j else missing
+    when j <? n then score counts j else missing

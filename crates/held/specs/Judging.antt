@@ -1,7 +1,7 @@
 -- How the values of a field are judged. Each rule's place is p, the offset of the field's tag.
 use Rattle.std.specs.Prelude.{ℕ, Bool, true, false, not, List, [], ◌∷◌, length, get_or}
 use Rattle.paper.specs.Limits.{slots, top_score, least_year, most_year}
-use Rattle.paper.specs.Words.{◌≤?◌, ◌<?◌, ◌=?◌, if◌then◌else◌}
+use Rattle.paper.specs.Words.{◌≤?◌, ◌<?◌, ◌=?◌, when◌then◌else◌}
 use Rattle.paper.specs.Ranges.{within}
 use Rattle.paper.specs.Lists.{some}
 use Rattle.paper.specs.Bytes.{byte, word, long}
@@ -56,9 +56,9 @@ student_rules ids v p = holds_id ids (long v 0) ⇒ 6 at p ∷ []
 -- of each tag; results are judged with their student
 abbrev pub value_rules : Held → Field → ℕ → List Rule
 value_rules held f p =
-    if f.tag =? 1 then year_rules f.value p
-    else if f.tag =? 2 then subject_rules f.value p
-    else if f.tag =? 3 then score_rules (subjects held.catalogue) held.table f.value p
-    else if f.tag =? 4 then figures_rules f.value p
-    else if f.tag =? 5 then student_rules (ids_of held.students) f.value p
+    when f.tag =? 1 then year_rules f.value p
+    else when f.tag =? 2 then subject_rules f.value p
+    else when f.tag =? 3 then score_rules (subjects held.catalogue) held.table f.value p
+    else when f.tag =? 4 then figures_rules f.value p
+    else when f.tag =? 5 then student_rules (ids_of held.students) f.value p
     else []

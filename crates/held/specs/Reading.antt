@@ -1,7 +1,7 @@
 -- How a file is read: size first, then its fields in order.
 use Rattle.std.specs.Prelude.{ℕ, List, [], ◌∷◌, ◌++◌, length}
 use Rattle.paper.specs.Limits.{most_bytes, most_results}
-use Rattle.paper.specs.Words.{◌<?◌, if◌then◌else◌}
+use Rattle.paper.specs.Words.{◌<?◌, when◌then◌else◌}
 use Rattle.paper.specs.Rulings.{Outcome, accepted, refused, Rule, ◌at◌, judged}
 use Rattle.fields.specs.Fields.{Field, Piece, whole, cut, pieces_of}
 use Rattle.fields.specs.Order.{start, further, order_rules, end_rules}
@@ -47,4 +47,4 @@ body file = ended (length file) (read_all (pieces_of file) (accepted opened))
 
 -- 2: a file that is too long; then the fields
 unfoldable pub reading : List ℕ → Outcome Held
-reading file = if most_bytes <? length file then refused (2 at most_bytes) else body file
+reading file = when most_bytes <? length file then refused (2 at most_bytes) else body file

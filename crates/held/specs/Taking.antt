@@ -1,7 +1,7 @@
 -- What a field adds to what is held, by its tag.
 use Rattle.std.specs.Prelude.{ℕ, ◌*◌, List, [], ◌∷◌, ◌++◌}
 use Rattle.paper.specs.Limits.{figure_count, figure_bytes}
-use Rattle.paper.specs.Words.{◌=?◌, if◌then◌else◌}
+use Rattle.paper.specs.Words.{◌=?◌, when◌then◌else◌}
 use Rattle.paper.specs.Lists.{listed}
 use Rattle.paper.specs.Bytes.{byte, word, long}
 use Rattle.scores.specs.Rows.{missing_row, stored}
@@ -49,10 +49,10 @@ with_result held v = record { year = held.year; catalogue = held.catalogue; tabl
 -- what is held with a field that breaks no rule
 abbrev pub taken : Held → Field → Held
 taken held f =
-    if f.tag =? 1 then with_year held f.value
-    else if f.tag =? 2 then with_subject held f.value
-    else if f.tag =? 3 then with_score held f.value
-    else if f.tag =? 4 then with_figures held f.value
-    else if f.tag =? 5 then with_student held f.value
-    else if f.tag =? 6 then with_result held f.value
+    when f.tag =? 1 then with_year held f.value
+    else when f.tag =? 2 then with_subject held f.value
+    else when f.tag =? 3 then with_score held f.value
+    else when f.tag =? 4 then with_figures held f.value
+    else when f.tag =? 5 then with_student held f.value
+    else when f.tag =? 6 then with_result held f.value
     else held

@@ -2,14 +2,14 @@
 use Rattle.std.specs.Prelude.{ℕ, suc, ◌+◌, ◌*◌, ◌≤◌, ◌≡◌, List, [], ◌∷◌, ◌++◌, length, get_or, drop}
 use Rattle.paper.specs.Limits.{most_students}
 use Rattle.paper.specs.Parts.{laid}
-use Rattle.paper.specs.Words.{◌=?◌, if◌then◌else◌}
+use Rattle.paper.specs.Words.{◌=?◌, when◌then◌else◌}
 use Rattle.listing.specs.Lines.{refused_line, line_bytes, shown, Shows}
 use Rattle.listing.specs.declared.writing.Line.{Line}
 use Rattle.printed.specs.Report.{Columns, eligible_line}
 
 -- a student's line: with the number 0 the one that is given for an eligible student, else that of the refusal
 abbrev pub line_or : List ℕ → ℕ → ℕ → ℕ → List ℕ
-line_or line id number place = if number =? 0 then line else refused_line id number place
+line_or line id number place = when number =? 0 then line else refused_line id number place
 
 -- the line of the student of whom this is noted, and who is, if eligible, the j-th of the eligible
 abbrev pub line_noted : Columns → ℕ → ℕ → ℕ → ℕ → List ℕ
@@ -17,7 +17,7 @@ line_noted c j id number place = line_or (eligible_line c j id) id number place
 
 -- how many are eligible with one student more
 abbrev pub after_noted : ℕ → ℕ → ℕ
-after_noted j number = if number =? 0 then suc j else j
+after_noted j number = when number =? 0 then suc j else j
 
 -- a line per student, from ids, numbers and places; j students before them are eligible
 unfoldable pub lines_noted : Columns → ℕ → List ℕ → List ℕ → List ℕ → List ℕ

@@ -2,7 +2,7 @@
 use Rattle.std.specs.Prelude.{ℕ, zero, suc, ◌+◌, ◌*◌, ◌/◌, ◌%◌, true, false, List, [], ◌∷◌, ◌++◌}
 use Rattle.paper.specs.Limits.{band_step}
 use Rattle.paper.specs.Units.{hundredths, thousandths}
-use Rattle.paper.specs.Words.{◌<?◌, if◌then◌else◌}
+use Rattle.paper.specs.Words.{◌<?◌, when◌then◌else◌}
 
 abbrev pub line_feed : ℕ
 line_feed = 10
@@ -47,4 +47,4 @@ low_band = 600
 
 -- the ATAR of band k, which is 0.05k; up to 600 it is 30.00 or less
 unfoldable pub atar : ℕ → List ℕ
-atar k = if low_band <? k then decimals2 (band_step * k) else low
+atar k = when low_band <? k then decimals2 (band_step * k) else low

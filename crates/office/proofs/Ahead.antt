@@ -8,7 +8,7 @@ use lib.ListN.{length, take, drop, length-drop}
 use lib.Seq.{get_or-drop, drop-drop}
 use borrow.Author.Tests.{le-leb, lt-leb, lt-ltb, le-ltb}
 use Rattle.paper.specs.Bytes.{byte, word}
-use Rattle.paper.specs.Words.{◌≤?◌, ◌<?◌, if◌then◌else◌}
+use Rattle.paper.specs.Words.{◌≤?◌, ◌<?◌, when◌then◌else◌}
 use Rattle.fields.specs.Fields.{Piece, whole, cut, value_at, field_at, past, pieces}
 use Rattle.fields.proofs.Pieces.{pieces-cut, pieces_whole, pieces_end}
 
@@ -17,7 +17,7 @@ unfoldable pub ahead : ℕ → ℕ → List ℕ → List Piece
 ahead zero p rest = []
 ahead (suc n) p rest =
     let others = whole p (field_at rest 0) ∷ ahead n (p + past rest 0) (drop (past rest 0) rest) in
-    if length rest ≤? 0 then [] else if length rest <? past rest 0 then cut p ∷ [] else others
+    when length rest ≤? 0 then [] else when length rest <? past rest 0 then cut p ∷ [] else others
 
 module _ (file : List ℕ) where
   word-left : (p : ℕ) → word (drop p file) 1 ≡ word file (p + 1)

@@ -4,7 +4,7 @@ use mathlib.Core.Path.{◌≡◌, refl}
 use mathlib.Core.List.{[], ◌∷◌, ◌++◌}
 use Rattle.paper.specs.Rounding.{nearest}
 use Rattle.paper.specs.Lists.{sum, count, sum_of, listed}
-use Rattle.paper.specs.Words.{◌=?◌, if◌then◌else◌}
+use Rattle.paper.specs.Words.{◌=?◌, when◌then◌else◌}
 use Rattle.paper.specs.Rulings.{Outcome, accepted, refused, ◌at◌}
 use Rattle.sets.specs.Promise.{Values}
 use Rattle.ranks.specs.Ranking.{ranks_of, percentiles_of}
@@ -23,7 +23,7 @@ abbrev gets : ℕ → Outcome Values
 gets aggregate = accepted (record { aggregate = aggregate; set = 31 })
 
 abbrev outcomes : Enrolled → Outcome Values
-outcomes s = if s.id =? 5 then gets 500 else if s.id =? 7 then gets 300 else if s.id =? 8 then gets 400 else refused (8 at 0)
+outcomes s = when s.id =? 5 then gets 500 else when s.id =? 7 then gets 300 else when s.id =? 8 then gets 400 else refused (8 at 0)
 
 -- at Y=2000 a place at band 3 and one at band 0: the first stands in band 3, the second in band 0, and the third is left over there
 pub one-over :

@@ -3,7 +3,7 @@ use Rattle.std.specs.Prelude.{ℕ, Bool, true, false, not, leb, ltb, eqb}
 
 -- a test binds less than a product and more than a sum, `&&` and `⇒`
 infix 69 ◌≤?◌ ◌<?◌ ◌=?◌ ◌≠?◌
-infixr 10 if◌then◌else◌
+infixr 10 when◌then◌else◌
 abbrev pub ◌≤?◌ : ℕ → ℕ → Bool
 m ≤? n = leb m n
 
@@ -21,5 +21,5 @@ abbrev pub pick {ℓ} : {A : Type ℓ} → Bool → A → A → A
 pick true a b = a
 pick false a b = b
 
-abbrev pub if◌then◌else◌ {ℓ} : {A : Type ℓ} → Bool → A → A → A
-if test then a else b = pick test a b
+abbrev pub when◌then◌else◌ {ℓ} : {A : Type ℓ} → Bool → A → A → A
+when test then a else b = pick test a b

@@ -5,7 +5,7 @@ use mathlib.Core.List.{List, [], ◌∷◌, ◌++◌}
 use lib.ListN.{get_or, replicate}
 use Rattle.paper.specs.Rounding.{nearest}
 use Rattle.paper.specs.Lists.{sum, count, first, listed}
-use Rattle.paper.specs.Words.{◌=?◌, if◌then◌else◌}
+use Rattle.paper.specs.Words.{◌=?◌, when◌then◌else◌}
 use Rattle.paper.specs.Rulings.{Outcome, accepted, refused, ◌at◌, in_turn}
 use Rattle.paper.specs.Bytes.{word, long}
 use Rattle.paper.specs.Parts.{laid}
@@ -39,10 +39,10 @@ gets aggregate = accepted (record { aggregate = aggregate; set = 31 })
 
 abbrev outcomes : Enrolled → Outcome Values
 outcomes s =
-    if s.id =? 7 then gets 36000
-    else if s.id =? 8 then gets 35500
-    else if s.id =? 11 then gets 35500
-    else if s.id =? 10 then refused (4 at 3)
+    when s.id =? 7 then gets 36000
+    else when s.id =? 8 then gets 35500
+    else when s.id =? 11 then gets 35500
+    else when s.id =? 10 then refused (4 at 3)
     else refused (8 at 0)
 
 -- the eligible alone, in file order

@@ -1,6 +1,6 @@
 -- What the sets are made of: the score of a result, and its identity.
 use Rattle.std.specs.Prelude.{ℕ, List}
-use Rattle.paper.specs.Words.{if◌then◌else◌}
+use Rattle.paper.specs.Words.{when◌then◌else◌}
 use Rattle.catalogue.specs.Kinds.{is_identified}
 use Rattle.scores.specs.Scores.{Found, scaled, absent, too_high, found, slot_of}
 use Rattle.results.specs.Results.{Student, result}
@@ -22,7 +22,7 @@ score table r = worth (score_found table r)
 
 -- the identity of a result of kinds 1 or 3; 0 for the others
 unfoldable pub own_identity : Result → ℕ
-own_identity r = if is_identified r.entry.kind then r.entry.identity else 0
+own_identity r = when is_identified r.entry.kind then r.entry.identity else 0
 
 -- the same of result i: student, table, i; and student, i
 abbrev pub score_at : Student → List ℕ → ℕ → ℕ

@@ -6,7 +6,7 @@ use mathlib.Core.List.{List, ◌++◌}
 use lib.ListN.{length, length-append}
 use borrow.Author.Tests.{eq-eqb, ne_eqb}
 use Rattle.paper.specs.Limits.{slots, slot_bytes, row_bytes, missing}
-use Rattle.paper.specs.Words.{◌=?◌, if◌then◌else◌}
+use Rattle.paper.specs.Words.{◌=?◌, when◌then◌else◌}
 use Rattle.paper.specs.Bytes.{long, word_bytes, long_bytes}
 use Rattle.paper.specs.Parts.{laid}
 use Rattle.paper.proofs.Parted.{laid-start, laid-all, laid-past, length-put, put-there}
@@ -57,7 +57,7 @@ long-row holds slot a b =
 
 -- a score laid in a slot
 abbrev pub with : (ℕ → ℕ) → ℕ → ℕ → ℕ → ℕ
-with holds at score slot = if slot =? at then score else holds slot
+with holds at score slot = when slot =? at then score else holds slot
 
 laid-slots : (k n : ℕ) (holds : ℕ → ℕ) (i score : ℕ) → i < n → laid (slots_from k n holds) (slot_bytes * i) (long_bytes score) ≡ slots_from k n (with holds (k + i) score)
 unfolding slots_from word_bytes long_bytes

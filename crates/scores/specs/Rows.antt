@@ -1,7 +1,7 @@
 -- Filling a subject's row, which is its own part of the lent table.
 use Rattle.std.specs.Prelude.{ℕ, zero, suc, ◌*◌, List, [], ◌++◌, replicate}
 use Rattle.paper.specs.Limits.{slots, row_bytes, missing_byte}
-use Rattle.paper.specs.Words.{if◌then◌else◌}
+use Rattle.paper.specs.Words.{when◌then◌else◌}
 use Rattle.paper.specs.Bytes.{long_bytes}
 use Rattle.paper.specs.Parts.{laid, put}
 use Rattle.scores.specs.Scores.{has_slot, slot_at}
@@ -28,4 +28,4 @@ cleared table subject = with_row table subject missing_row
 
 -- table, subject, slot, score: the table after a score is stored; as it was where there is no such row or slot
 unfoldable pub stored : List ℕ → ℕ → ℕ → ℕ → List ℕ
-stored table subject slot score = if has_slot table subject slot then laid table (slot_at subject slot) (long_bytes score) else table
+stored table subject slot score = when has_slot table subject slot then laid table (slot_at subject slot) (long_bytes score) else table

@@ -2,7 +2,7 @@
 use Rattle.std.specs.Prelude.{ℕ, ◌+◌, ◌-◌, ◌*◌, ◌/◌, Bool, ◌&&◌, List, length}
 use Rattle.paper.specs.Limits.{slots, slot_bytes, row_bytes, missing, top_score}
 use Rattle.paper.specs.Letters.{letter_a, letter_b, letter_c, letter_d, letter_e}
-use Rattle.paper.specs.Words.{◌<?◌, ◌=?◌, if◌then◌else◌}
+use Rattle.paper.specs.Words.{◌<?◌, ◌=?◌, when◌then◌else◌}
 use Rattle.paper.specs.Ranges.{within}
 use Rattle.paper.specs.Bytes.{long, records}
 use Rattle.catalogue.specs.Kinds.{is_general, is_applied, is_vet}
@@ -28,7 +28,7 @@ slot_at subject slot = row_bytes * subject + in_row slot
 
 -- what it holds; past the table it is missing
 abbrev pub slot_value : List ℕ → ℕ → ℕ → ℕ
-slot_value table subject slot = if has_slot table subject slot then long table (slot_at subject slot) else missing
+slot_value table subject slot = when has_slot table subject slot then long table (slot_at subject slot) else missing
 
 -- what is found in a slot: a score; nothing; or a number over the greatest score
 pub data Found : Type 0 where
@@ -37,7 +37,7 @@ pub data Found : Type 0 where
   too_high : Found
 
 abbrev pub valued : ℕ → Found
-valued value = if value =? missing then absent else if top_score <? value then too_high else scaled value
+valued value = when value =? missing then absent else when top_score <? value then too_high else scaled value
 
 unfoldable pub found : List ℕ → ℕ → ℕ → Found
 found table subject slot = valued (slot_value table subject slot)
@@ -45,17 +45,17 @@ found table subject slot = valued (slot_value table subject slot)
 -- the slot of an Applied letter; another letter has none, which is 0
 abbrev pub letter_slot : ℕ → ℕ
 letter_slot letter =
-    if letter =? letter_a then 90
-    else if letter =? letter_b then 70
-    else if letter =? letter_c then 50
-    else if letter =? letter_d then 30
-    else if letter =? letter_e then 10
+    when letter =? letter_a then 90
+    else when letter =? letter_b then 70
+    else when letter =? letter_c then 50
+    else when letter =? letter_d then 30
+    else when letter =? letter_e then 10
     else 0
 
 -- kind, letter, number: the slot of a result. General has that of its number, Applied that of its letter, VET slot 1; a short course has none
 unfoldable pub slot_of : ℕ → ℕ → ℕ → ℕ
 slot_of kind letter number =
-    if is_general kind then number
-    else if is_applied kind then letter_slot letter
-    else if is_vet kind then 1
+    when is_general kind then number
+    else when is_applied kind then letter_slot letter
+    else when is_vet kind then 1
     else 0

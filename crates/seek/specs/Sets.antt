@@ -1,6 +1,6 @@
 -- Sets of results, what a set comes to, and which of two comes first. A set is a number below 2 ^ most_results, bit i for result i.
 use Rattle.std.specs.Prelude.{ℕ, zero, suc, ◌+◌, ◌/◌, ◌%◌, ◌^◌, ◌<◌, ◌≡◌, ◌⊎◌, Bool, List, [], ◌∷◌}
-use Rattle.paper.specs.Words.{◌=?◌, if◌then◌else◌}
+use Rattle.paper.specs.Words.{◌=?◌, when◌then◌else◌}
 use Rattle.paper.specs.Limits.{most_results}
 
 -- bit i of a set: 1 if result i is a member, 0 if not
@@ -36,7 +36,7 @@ sum_over f (i ∷ l) = f i + sum_over f l
 
 -- how many positions have f
 unfoldable pub count_over : (ℕ → Bool) → List ℕ → ℕ
-count_over f l = sum_over (λ i. if f i then 1 else 0) l
+count_over f l = sum_over (λ i. when f i then 1 else 0) l
 
 -- what a set comes to: the sum of its members' scores
 abbrev pub comes_to : (ℕ → ℕ) → ℕ → ℕ

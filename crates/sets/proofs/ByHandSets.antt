@@ -4,7 +4,7 @@ use mathlib.Core.Path.{◌≡◌, refl}
 use mathlib.Core.Bool.{Bool, true, false}
 use mathlib.Core.List.{List, [], ◌∷◌, ◌++◌}
 use lib.ListN.{replicate}
-use Rattle.paper.specs.Words.{◌=?◌, if◌then◌else◌}
+use Rattle.paper.specs.Words.{◌=?◌, when◌then◌else◌}
 use Rattle.paper.specs.Bytes.{word, long}
 use Rattle.paper.specs.Lists.{first}
 use Rattle.paper.specs.Rounding.{nearest}
@@ -109,7 +109,7 @@ catalogue =
 -- results of 2021, one to a subject; and their student
 abbrev pub taken : List ℕ → List ℕ
 taken [] = []
-taken (subject ∷ more) = dated subject (if subject =? certificate then letter_y else letter_a) 1 2021 (taken more)
+taken (subject ∷ more) = dated subject (when subject =? certificate then letter_y else letter_a) 1 2021 (taken more)
 
 abbrev pub of2021 : List ℕ → Student
 of2021 subjects = student catalogue 2021 (taken subjects)

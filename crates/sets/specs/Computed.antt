@@ -4,7 +4,7 @@ use Rattle.paper.specs.Limits.{most_results, members, least_general, most_span}
 use Rattle.paper.specs.Lists.{some}
 use Rattle.paper.specs.Promises.{answered}
 use Rattle.paper.specs.Rulings.{Outcome, accepted, refused, ◌at◌}
-use Rattle.paper.specs.Words.{◌≤?◌, ◌<?◌, ◌=?◌, if◌then◌else◌}
+use Rattle.paper.specs.Words.{◌≤?◌, ◌<?◌, ◌=?◌, when◌then◌else◌}
 use Rattle.catalogue.specs.Kinds.{english, mathematics}
 use Rattle.seek.specs.Sets.{has, positions, count_over}
 use Rattle.results.specs.Results.{Student, held, result}
@@ -62,12 +62,12 @@ better worth best set = worth best <? worth set || (worth best =? worth set && e
 
 abbrev pub choose : (ℕ → ℕ) → Choice → ℕ → Choice
 choose worth none set = one set
-choose worth (one best) set = one (if better worth best set then set else best)
+choose worth (one best) set = one (when better worth best set then set else best)
 
 -- the choice among the numbers below n
 unfoldable pub chosen : (ℕ → Bool) → (ℕ → ℕ) → ℕ → Choice
 chosen right worth zero = none
-chosen right worth (suc n) = let c = chosen right worth n in if right n then choose worth c n else c
+chosen right worth (suc n) = let c = chosen right worth n in when right n then choose worth c n else c
 
 -- what is said of a choice: the aggregate and the set, or 8
 abbrev pub told : Student → List ℕ → Choice → Outcome Values

@@ -1,6 +1,6 @@
 -- Students worked by hand: their catalogues, score tables and results.
 use Rattle.std.specs.Prelude.{ℕ, ◌+◌, ◌-◌, ◌*◌, ◌/◌, ◌%◌, List, [], ◌∷◌, ◌++◌}
-use Rattle.paper.specs.Words.{◌=?◌, if◌then◌else◌}
+use Rattle.paper.specs.Words.{◌=?◌, when◌then◌else◌}
 use Rattle.paper.specs.Letters.{letter_a, letter_b, letter_c}
 use Rattle.paper.specs.Limits.{missing, score_parts, top_score}
 use Rattle.scores.specs.Rows.{row_of}
@@ -11,7 +11,7 @@ abbrev pub general_row : List ℕ
 general_row = row_of (λ j. j * score_parts)
 
 abbrev pub one_score : ℕ → ℕ → List ℕ
-one_score slot score = row_of (λ j. if j =? slot then score else missing)
+one_score slot score = row_of (λ j. when j =? slot then score else missing)
 
 -- English, Methods, Biology, Chemistry, Essential Mathematics (Applied), Physics, Hospitality (Applied)
 abbrev pub catalogue : List ℕ

@@ -5,7 +5,7 @@ use Rattle.paper.specs.Limits.{slots, row_bytes, result_bytes, most_results, fir
 use Rattle.paper.specs.Lists.{first, some}
 use Rattle.paper.specs.Ranges.{within}
 use Rattle.paper.specs.Rulings.{Rule, ◌⇒◌, ◌at◌, in_turn}
-use Rattle.paper.specs.Words.{◌≤?◌, ◌<?◌, ◌=?◌, ◌≠?◌, if◌then◌else◌}
+use Rattle.paper.specs.Words.{◌≤?◌, ◌<?◌, ◌=?◌, ◌≠?◌, when◌then◌else◌}
 use Rattle.catalogue.specs.Catalogue.{subjects, catalogue_rules}
 use Rattle.catalogue.specs.Kinds.{is_general, is_vet}
 use Rattle.scores.specs.Scores.{Found, scaled, absent, too_high}
@@ -17,8 +17,8 @@ use Rattle.results.specs.declared.reading.Result.{Result}
 -- VET: Y or N, number 0; the others: letter A to E, with number 1 to 100 for kinds 1 to 3, and 0 for kinds 4 and 5
 abbrev pub grade_fits : Result → Bool
 grade_fits r =
-    if is_vet r.entry.kind then (r.letter =? letter_y || r.letter =? letter_n) && r.number =? 0
-    else within letter_a letter_e r.letter && (if is_general r.entry.kind then within 1 slots r.number else r.number =? 0)
+    when is_vet r.entry.kind then (r.letter =? letter_y || r.letter =? letter_n) && r.number =? 0
+    else within letter_a letter_e r.letter && (when is_general r.entry.kind then within 1 slots r.number else r.number =? 0)
 
 -- letter, number or year wrong for the kind, in an assessment year: the year is 1980 to that
 unfoldable pub wrong : ℕ → Result → Bool

@@ -1,7 +1,7 @@
 -- What the passes over a tally make of it.
 use Rattle.std.specs.Prelude.{ℕ, zero, suc, ◌+◌, ◌-◌, ◌*◌, ◌≤◌, ◌<◌, List, length, get_or, drop}
 use Rattle.paper.specs.Lists.{sum, sum_of, listed}
-use Rattle.paper.specs.Words.{◌<?◌, if◌then◌else◌}
+use Rattle.paper.specs.Words.{◌<?◌, when◌then◌else◌}
 use Rattle.tally.specs.Places.{one_place, places, band_of}
 
 -- for each entry of a list the sum up to it: of a tally, how many students have an aggregate at most t
@@ -30,7 +30,7 @@ bands_by table Y cs = listed 0 (length cs) (λ t. band_of table Y (get_or cs t 0
 
 -- at each t whose C doesn't fit band 0 the C(t) - C(t+1) students there; and all of them
 abbrev pub left_at : List ℕ → ℕ → List ℕ → ℕ → ℕ
-left_at table Y cs t = if places table Y 0 <? one_place * get_or cs t 0 then get_or cs t 0 - get_or cs (t + 1) 0 else 0
+left_at table Y cs t = when places table Y 0 <? one_place * get_or cs t 0 then get_or cs t 0 - get_or cs (t + 1) 0 else 0
 
 unfoldable pub remainder_by : List ℕ → ℕ → List ℕ → ℕ
 remainder_by table Y cs = sum (length cs) (left_at table Y cs)

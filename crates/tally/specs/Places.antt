@@ -3,7 +3,7 @@ use Rattle.std.specs.Prelude.{ℕ, zero, suc, ◌*◌, ◌≤◌, List, drop}
 use Rattle.paper.specs.Limits.{top_band, band_count}
 use Rattle.paper.specs.Lists.{sum_of}
 use Rattle.paper.specs.Units.{millionths}
-use Rattle.paper.specs.Words.{◌≤?◌, if◌then◌else◌}
+use Rattle.paper.specs.Words.{◌≤?◌, when◌then◌else◌}
 
 -- F(k), the sum of table entries k to 1999
 abbrev pub F : List ℕ → ℕ → ℕ
@@ -24,7 +24,7 @@ Fits table Y k c = one_place * c ≤ places table Y k
 -- table, Y, c, k: the highest band up to k that c students fit, 0 if none
 unfoldable pub band_up_to : List ℕ → ℕ → ℕ → ℕ → ℕ
 band_up_to table Y c zero = 0
-band_up_to table Y c (suc k) = let below = band_up_to table Y c k in if one_place * c ≤? places table Y (suc k) then suc k else below
+band_up_to table Y c (suc k) = let below = band_up_to table Y c k in when one_place * c ≤? places table Y (suc k) then suc k else below
 
 -- the band of c students: the highest of all that they fit, or 0
 abbrev pub band_of : List ℕ → ℕ → ℕ → ℕ

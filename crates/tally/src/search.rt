@@ -1,7 +1,7 @@
 // The band search.
 ghost use Rattle.std.specs.Prelude.{◌≡◌, ◌*◌, ◌≤◌};
 ghost use Rattle.paper.specs.Limits.{most_population, top_band, band_count, most_entry};
-ghost use Rattle.paper.specs.Words.{◌≤?◌, if◌then◌else◌};
+ghost use Rattle.paper.specs.Words.{◌≤?◌, when◌then◌else◌};
 ghost use Rattle.tally.specs.Places.{one_place};
 ghost use Rattle.tally.specs.Inner.{Sized};
 ghost use Rattle.tally.specs.InnerSearch.{Stands, SearchAt, Reaches};
@@ -86,7 +86,7 @@ pub fn go_on(table: &[u32], population: u32, c: u32, from: Reached) -> Reached
 
 // Of n students whose C is c, those left over: all, if c doesn't fit the band that is reached, which then is 0.
 pub fn left_over(c: u32, places: u64, n: u32) -> usize
-    ensures { result ≡ if one_place * c ≤? places then 0 else n }
+    ensures { result ≡ when one_place * c ≤? places then 0 else n }
 {
     if fits(c, places) {
         return 0;

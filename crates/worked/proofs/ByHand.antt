@@ -4,7 +4,7 @@ use mathlib.Core.Path.{◌≡◌, refl}
 use mathlib.Core.Bool.{Bool, true, false, ◌&&◌}
 use mathlib.Core.List.{List, [], ◌∷◌, ◌++◌, map}
 use lib.ListN.{length, replicate}
-use Rattle.paper.specs.Words.{◌=?◌, if◌then◌else◌}
+use Rattle.paper.specs.Words.{◌=?◌, when◌then◌else◌}
 use Rattle.paper.specs.Bytes.{word, long, word_bytes, long_bytes}
 use Rattle.scores.specs.Scores.{found, slot_of}
 use Rattle.scores.specs.Rows.{slots_from}
@@ -58,7 +58,7 @@ same (x ∷ xs) (y ∷ ys) = x =? y && same xs ys
 
 abbrev times : List ℕ → List (List ℕ) → ℕ
 times x [] = 0
-times x (y ∷ ys) = if same x y then suc (times x ys) else times x ys
+times x (y ∷ ys) = when same x y then suc (times x ys) else times x ys
 
 -- none is there twice
 pub once : map (λ x. times x (map asks examples)) (map asks examples) ≡ replicate 28 1
