@@ -147,7 +147,7 @@ struct shtegomir_scored {
  */
 struct shtegomir_scored shtegomir_first_scores(uint32_t kind, uint32_t subject, const uint32_t *counts, size_t counts_len,
                                                uint8_t *table, size_t table_len);
-enum { SHTEGOMIR_FIRST_SCORES_STACK = 64 };
+enum { SHTEGOMIR_FIRST_SCORES_STACK = 96 };
 
 /* ---- The population and the participation curve ---- */
 
@@ -171,7 +171,7 @@ struct shtegomir_curve {
  * It takes at most SHTEGOMIR_PARTICIPATION_STACK bytes of stack.
  */
 struct shtegomir_curve shtegomir_participation(const uint32_t *figures, size_t figures_len, uint32_t *table, size_t table_len);
-enum { SHTEGOMIR_PARTICIPATION_STACK = 64 };
+enum { SHTEGOMIR_PARTICIPATION_STACK = 96 };
 
 /* ---- Ranks and percentiles ---- */
 
@@ -193,7 +193,7 @@ struct shtegomir_ranked {
  */
 struct shtegomir_ranked shtegomir_rank(const uint32_t *values, size_t values_len, uint32_t *ranks, size_t ranks_len,
                                        uint32_t *percentiles, size_t percentiles_len);
-enum { SHTEGOMIR_RANK_STACK = 2368 };
+enum { SHTEGOMIR_RANK_STACK = 1200 };
 
 /* ---- Bands ---- */
 
@@ -222,7 +222,7 @@ struct shtegomir_placed {
  */
 struct shtegomir_placed shtegomir_place_direct(const uint32_t *aggregates, size_t aggregates_len, const uint32_t *table,
                                                size_t table_len, uint32_t population, uint16_t *bands, size_t bands_len);
-enum { SHTEGOMIR_PLACE_DIRECT_STACK = 144 };
+enum { SHTEGOMIR_PLACE_DIRECT_STACK = 80 };
 
 /* ---- Ranks and bands in one call ---- */
 
@@ -255,7 +255,7 @@ struct shtegomir_placed shtegomir_rank_and_place(const uint32_t *aggregates, siz
                                                  size_t table_len, uint32_t population, uint32_t *ranks, size_t ranks_len,
                                                  uint32_t *percentiles, size_t percentiles_len, uint16_t *bands, size_t bands_len,
                                                  uint32_t *counts, size_t counts_len);
-enum { SHTEGOMIR_RANK_AND_PLACE_STACK = 160 };
+enum { SHTEGOMIR_RANK_AND_PLACE_STACK = 208 };
 
 /* ---- The listing of a cohort file ---- */
 
@@ -280,7 +280,7 @@ struct shtegomir_text {
  * It takes at most SHTEGOMIR_REPORT_STACK bytes of stack.
  */
 struct shtegomir_text shtegomir_report(const uint8_t *file, size_t file_len, uint8_t *text, size_t text_len);
-enum { SHTEGOMIR_REPORT_STACK = 95728 };
+enum { SHTEGOMIR_REPORT_STACK = 97984 };
 
 #ifdef __cplusplus
 }
