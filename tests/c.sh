@@ -21,9 +21,9 @@ build_library() {
     said=$(cd crates/shtegomir && rt lib 2>&1) && [ -f "$library" ] || { printf '%s\n' "$said" | tail -n 20; return 1; }
 }
 
-# Builds the program likewise.
+# Builds the program likewise, as the office does.
 build_program() {
-    said=$(cd crates/estimate && rt run < stdin 2>&1 > /dev/null) && [ -f "$estimate" ] || { printf '%s\n' "$said" | tail -n 20; return 1; }
+    said=$(./run < crates/estimate/stdin 2>&1 > /dev/null) && [ -f "$estimate" ] || { printf '%s\n' "$said" | tail -n 20; return 1; }
 }
 
 # Whether there are sanitizers here: a program is built with them, and runs.

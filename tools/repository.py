@@ -11,6 +11,9 @@ ROOT = os.path.dirname(os.path.dirname(os.path.abspath(__file__)))
 # What rt says of an edit that fell because a proof file names what the edit took away, so that no fact was refused.
 SHAPE = "only because a proof file names what the edit took away"
 
+# And of one at which the prover gave up, and so gave no verdict.
+LIMIT = "only by a limit of the prover"
+
 # Where ./test keeps what `rt ci` said.
 SAID = os.path.join(ROOT, "target", "ci.log")
 

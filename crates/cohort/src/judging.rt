@@ -94,7 +94,7 @@ fn judge_score(place: usize, value: &[u8], subjects: usize, marks: &[u8; MOST_SL
     Verdict::Clear
 }
 
-// 9 or 10, at the field's offset. Ten figures are refused for nothing else: `nine-or-ten` (proofs/Populated.antt).
+// 9 or 10, at the field's offset. Ten figures are refused for nothing else: `nine-or_ten` (proofs/Populated.antt).
 fn moved(x: Refusal, place: usize) -> Refusal
     ensures { fault result ≡ nine_or_ten (number_of (fault x)) at place }
 {

@@ -19,7 +19,7 @@ pub F-summed : (F (1 ∷ 20 ∷ 300 ∷ []) 0 ≡ 321) × (F (1 ∷ 20 ∷ 300 �
 unfolding sum_of full
 F-summed = (refl, refl, refl, refl, refl, refl)
 
--- the places at band k and higher are Y-as-F(k)/2000000000, unrounded
+-- the places at band k and higher are Y·F(k)/2000000000, unrounded
 pub places-unrounded : (one_place ≡ 2000000000) × (places (1 ∷ 20 ∷ 300 ∷ []) 7 1 ≡ 2240) × (places (1 ∷ 20 ∷ 300 ∷ []) 1000000 2 ≡ 300000000)
 unfolding sum_of places
 places-unrounded = (refl, refl, refl)
@@ -41,7 +41,7 @@ pub top_bands : (band_of full 2000 1 ≡ 1999) × (band_of full 2000 2 ≡ 1998)
 unfolding band_up_to places sum_of full
 top_bands = (refl, refl, refl, refl)
 
--- C fits if 2000000000·C is at most Y-as-F(k): exactly, and by one too many; Y one less
+-- C fits if 2000000000·C is at most Y·F(k): exactly, and by one too many; Y one less
 pub by_one : (band_of (set full 1999 999999) 1000 1 ≡ 1997) × (band_of (set full 1999 999999) 2000 1 ≡ 1998) × (band_of full 999 1 ≡ 1997) × (band_of full 1999 1 ≡ 1998)
     × (band_of (0 ∷ 0 ∷ 0 ∷ 2000 ∷ []) 1000000 1 ≡ 3) × (band_of (0 ∷ 0 ∷ 0 ∷ 1999 ∷ []) 1000000 1 ≡ 0)
 unfolding band_up_to places sum_of full

@@ -13,7 +13,7 @@ F table k = sum_of (drop k table)
 abbrev pub one_place : ℕ
 one_place = band_count * millionths
 
--- Y-as-F(k): the places at band k and higher, unrounded, times 2000000000
+-- Y·F(k): the places at band k and higher, unrounded, times 2000000000
 unfoldable pub places : List ℕ → ℕ → ℕ → ℕ
 places table Y k = Y * F table k
 

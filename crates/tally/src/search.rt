@@ -10,7 +10,7 @@ use paper::limits::{BAND_COUNT, TOP_BAND};
 use paper::units::MILLIONTHS;
 use paper::widening::wide32;
 
-// One place, where places are Y.F(k).
+// One place, where places are Y·F(k).
 const ONE_PLACE: u64 = BAND_COUNT as u64 * MILLIONTHS;
 
 // A band, the sum of the table's entries from it on, and its places, unrounded, times 2000000000.

@@ -3,10 +3,8 @@ use lib.ListN.{length}
 use Rattle.slips.proofs.slips.atars.Given as goal
 
 -- the first i bands are told
--- ?? parameters: bands i₀ i | l.out l.bands l.initial.i l.i
 abbrev pub invariant-loop-i : goal.invariant-loop-i
 invariant-loop-i l = l.i ≤ length l.bands
 
--- ?? parameters: bands i₀ i | l.out l.bands l.initial.i l.i
 abbrev pub decreases-loop-i : goal.decreases-loop-i
 decreases-loop-i l = length l.bands - l.i
