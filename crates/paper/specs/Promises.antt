@@ -1,8 +1,13 @@
 -- What every entry promises: its answer says what the ruling permits, and the lent buffers are left as the answer says.
-use Rattle.std.specs.Prelude.{◌≡◌}
+use Rattle.std.specs.Prelude.{◌≡◌, Result, Ok, Err}
 use Rattle.paper.specs.Rulings.{Outcome, accepted, refused}
 use Rattle.paper.specs.Refusals.{fault, refusal}
 use Rattle.paper.specs.declared.refusal.Refusal.{Refusal}
+
+-- what an answer says: its values, or the paper's number and place of its refusal
+abbrev pub said : {A : Type 0} → Result A Refusal → Outcome A
+said (Ok values) = accepted values
+said (Err x) = refused (fault x)
 
 -- accepted: the buffers after are as is owed for the values; refused: they are as they were
 abbrev pub Left : {A B : Type 0} → (A → B → Type 0) → B → Outcome A → B → Type 0
@@ -27,6 +32,10 @@ Saying said Ruled answer = Promised said Ruled (λ values none. Unit {0}) (tt {0
 abbrev pub answered : {R A : Type 0} → (A → R) → (Refusal → R) → Outcome A → R
 answered accept refuse (accepted values) = accept values
 answered accept refuse (refused fault) = refuse (refusal fault)
+
+-- the answer that says an outcome
+abbrev pub answer : {A : Type 0} → Outcome A → Result A Refusal
+answer = answered Ok Err
 
 -- the buffers of an outcome, by how values fill them, and as they were
 abbrev pub filled : {A B : Type 0} → (A → B) → B → Outcome A → B
