@@ -10,6 +10,8 @@ use mathlib.Core.Logic.{◌⊎◌, inl, inr, ⊎_elim}
 use mathlib.Core.List.{List, [], ◌∷◌, ◌++◌, append_assoc}
 use lib.ListN.{length, take, drop, set, length-append, get_or-append}
 use lib.Seq.{sets-eq, get_or-append-add}
+use Rattle.std.proofs.Common.{◌^◌, w32}
+use Rattle.std.specs.Int.{to_be_bytes}
 use borrow.Author.Tests.{le-leb, lt-leb}
 use Rattle.paper.specs.Lists.{pick}
 use Rattle.paper.specs.Bytes.{byte, word, long, word_bytes, long_bytes, record_at}
@@ -25,6 +27,16 @@ length-word n = refl
 pub length-long : (n : ℕ) → length (long_bytes n) ≡ 4
 unfolding word_bytes long_bytes
 length-long n = refl
+
+-- the library writes a number in these four bytes
+pub long-bytes : (n : ℕ) → n < 2 ^ 32 → to_be_bytes w32 n ≡ long_bytes n
+unfolding word_bytes long_bytes
+long-bytes n h =
+    let a : n / 16777216 % 256 ≡ n / 65536 / 256 = omega arith in
+    let b : n / 65536 % 256 ≡ n / 65536 % 256 = refl in
+    let c : n / 256 % 256 ≡ n % 65536 / 256 = omega arith in
+    let d : n % 256 ≡ n % 65536 % 256 = omega arith in
+    rw (a, c, d) refl
 
 -- read what was written
 pub word-written : (n : ℕ) → word (word_bytes n) 0 ≡ n

@@ -6,5 +6,5 @@ ghost use Rattle.paper.specs.Ranges.{within};
 pub fn within(low: u64, high: u64, n: u64) -> bool
     ensures { result ≡ within low high n }
 {
-    low <= n && n <= high
+    (low..=high).contains(&n)
 }

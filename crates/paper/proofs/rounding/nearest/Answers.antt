@@ -1,4 +1,3 @@
-use Prim.Native.Nat.{◌≤◌}
 use native.Mathlib.Omega.{arith}
 use mathlib.Core.Path.{sym, ap, ◌∙◌}
 use Rattle.paper.specs.Rounding.{nearest}
@@ -15,4 +14,4 @@ returns-then-rest-b c =
 
 pub returns : goal.returns
 returns c =
-    sym (nearest-up c.args.a c.args.b ((let some : 1 ≤ c.args.b = omega (arith, c.if-b-eq0.false) in some)) c.if-rest-b.false)
+    sym (nearest-up c.args.a c.args.b (omega arith) c.if-rest-b.false)
