@@ -6,7 +6,7 @@ use Rattle.paper.specs.Rounding.{nearest}
 use Rattle.paper.specs.Lists.{sum, count, sum_of, listed}
 use Rattle.paper.specs.Words.{◌=?◌, when◌then◌else◌}
 use Rattle.paper.specs.Rulings.{Outcome, accepted, refused, ◌at◌}
-use Rattle.sets.specs.Promise.{Values}
+use Rattle.sets.specs.declared.BestSet.{BestSet}
 use Rattle.ranks.specs.Ranking.{ranks_of, percentiles_of}
 use Rattle.tally.specs.Places.{places, band_up_to}
 use Rattle.placements.specs.Placing.{remainder}
@@ -19,10 +19,10 @@ use Rattle.printed.specs.Report.{aggregates_of, lines_of, listed as listing}
 abbrev enrolled : ℕ → Enrolled
 enrolled id = record { id = id; results = [] }
 
-abbrev gets : ℕ → Outcome Values
+abbrev gets : ℕ → Outcome BestSet
 gets aggregate = accepted (record { aggregate = aggregate; set = 31 })
 
-abbrev outcomes : Enrolled → Outcome Values
+abbrev outcomes : Enrolled → Outcome BestSet
 outcomes s = when s.id =? 5 then gets 500 else when s.id =? 7 then gets 300 else when s.id =? 8 then gets 400 else refused (8 at 0)
 
 -- at Y=2000 a place at band 3 and one at band 0: the first stands in band 3, the second in band 0, and the third is left over there

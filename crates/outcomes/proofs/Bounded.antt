@@ -10,7 +10,7 @@ use Rattle.paper.specs.Rulings.{Outcome, accepted, refused, place_in}
 use Rattle.paper.proofs.Ruled.{IfRefused}
 use Rattle.catalogue.specs.Catalogue.{subjects}
 use Rattle.results.specs.Results.{Student as One, student, held}
-use Rattle.sets.specs.Promise.{Values}
+use Rattle.sets.specs.declared.BestSet.{BestSet}
 use Rattle.sets.specs.Computed.{computed}
 use Rattle.sets.proofs.Places.{Near, place-near}
 use Rattle.printed.specs.Report.{outcome}
@@ -43,6 +43,6 @@ place_short catalogue table year results place count s r = go (computed one tabl
     few : held one ≤ most_results
     few = omega (arith, length-take (result_bytes * count) (drop place results))
 
-    go : (o : Outcome Values) → IfRefused (Near one table) o → place_in o < 256
+    go : (o : Outcome BestSet) → IfRefused (Near one table) o → place_in o < 256
     go (accepted v) n = omega arith
     go (refused f) n = omega (arith, n, few)

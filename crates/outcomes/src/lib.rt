@@ -4,13 +4,14 @@
 ghost use Rattle.std.specs.Prelude.{◌≡◌, ◌+◌, ◌*◌, ◌≤◌, ◌<◌, length};
 ghost use Rattle.paper.specs.Limits.{result_bytes};
 ghost use Rattle.paper.specs.Rulings.{number_in, place_in};
-ghost use Rattle.sets.specs.Promise.{said};
+ghost use Rattle.paper.specs.Promises.{said};
 ghost use Rattle.printed.specs.Report.{outcome, after_one};
 ghost use Rattle.outcomes.specs.Inner.{outcome_at, joined, Collectable, Collected};
 
 use paper::limits::RESULT_BYTES;
 use paper::refusal;
-use sets::Answer;
+use paper::refusal::Refusal;
+use sets::BestSet;
 
 // The best set of the student whose results stand from a place on.
 fn best_at(
@@ -20,7 +21,7 @@ fn best_at(
     results: &[u8],
     place: usize,
     count: usize,
-) -> Answer
+) -> Result<BestSet, Refusal>
     requires { place + result_bytes * count ≤ length results.now }
     ensures { said result ≡ outcome_at catalogue.now table.now year results.now place count }
 {
@@ -28,43 +29,27 @@ fn best_at(
     bestset::best_set(catalogue, table, year, &results[place..end])
 }
 
-// The number of a refusal, 0 of an eligible student.
-fn number_in(answer: Answer) -> u8
-    ensures { result ≡ number_in (said answer) }
+// The number and the place of a refusal, both 0 of an eligible student.
+fn refusal_in(answer: Result<BestSet, Refusal>) -> (u8, usize)
+    ensures { (result.0 ≡ number_in (said answer)) × (result.1 ≡ place_in (said answer)) }
 {
     match answer {
-        Answer::Accepted {
-            aggregate: _,
-            set: _,
-        } => 0,
-        Answer::Refused(x) => refusal::number(x),
-    }
-}
-
-// The place of a refusal, 0 of an eligible student.
-fn place_in(answer: Answer) -> usize
-    ensures { result ≡ place_in (said answer) }
-{
-    match answer {
-        Answer::Accepted {
-            aggregate: _,
-            set: _,
-        } => 0,
-        Answer::Refused(x) => refusal::place(x),
+        Ok(_) => (0, 0),
+        Err(x) => (refusal::number(x), refusal::place(x)),
     }
 }
 
 // Joins the aggregate of an eligible student to j others, and counts them.
-fn join(answer: Answer, j: usize, aggregates: &mut [u32]) -> usize
+fn join(answer: Result<BestSet, Refusal>, j: usize, aggregates: &mut [u32]) -> usize
     requires { j < length aggregates.old }
     ensures { (aggregates.new ≡ joined (said answer) aggregates.old j) × (result ≡ after_one j (said answer)) }
 {
     match answer {
-        Answer::Accepted { aggregate, set: _ } => {
-            aggregates[j] = aggregate;
+        Ok(best) => {
+            aggregates[j] = best.aggregate;
             j + 1
         }
-        Answer::Refused(_) => j,
+        Err(_) => j,
     }
 }
 
@@ -82,18 +67,17 @@ pub fn collect(
     requires { Collectable catalogue.now counts.old results.now aggregates.old places.old }
     ensures { Collected (outcome catalogue.now table.now year) counts.old results.now aggregates.new counts.new places.new result }
 {
-    let mut i = 0;
     let mut place = 0;
     let mut eligible = 0;
-    while i < counts.len() {
-        let count = counts[i] as usize;
+    for i in 0..counts.len() {
+        let count = usize::from(counts[i]);
         let answer = best_at(catalogue, table, year, results, place, count);
         eligible = join(answer, eligible, aggregates);
-        counts[i] = number_in(answer);
+        let (number, at) = refusal_in(answer);
+        counts[i] = number;
         // A student's place is at most 64 subjects, 16 results and the greatest limit, 64: `place-near` (sets/proofs/Places.antt).
-        places[i] = place_in(answer) as u8;
+        places[i] = at as u8;
         place += RESULT_BYTES * count;
-        i += 1;
     }
     eligible
 }

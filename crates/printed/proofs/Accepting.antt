@@ -4,6 +4,7 @@ use native.Mathlib.Omega.{arith}
 use mathlib.Core.Path.{◌≡◌, refl, ap, subst, ◌∙◌}
 use mathlib.Core.Bool.{Bool, false}
 use mathlib.Core.List.{List}
+use Rattle.std.proofs.Common.{Result, Ok, Err}
 use lib.ListN.{length, get_or}
 use borrow.Author.Tests.{le-ltb, eq-eqb}
 use Rattle.paper.specs.Limits.{most_aggregate, band_count, most_students, most_values, most_population, most_entry, least_rate, most_rate}
@@ -12,19 +13,17 @@ use Rattle.paper.specs.Rulings.{accepted}
 use Rattle.paper.proofs.Firsts.{none_has}
 use Rattle.paper.proofs.Ranging.{true_within}
 use Rattle.paper.proofs.Promised.{rules_is, only-as, left_as}
+use Rattle.paper.proofs.Said.{tells}
 use Rattle.paper.specs.declared.refusal.Refusal.{Refusal}
 use Rattle.curve.specs.Curve.{table_of, drawn}
 use Rattle.curve.specs.Meaning.{Curved}
 use Rattle.curve.proofs.Means.{curved}
 use Rattle.ranks.specs.Promise.{Lent, lent, ranked, ruling as ranksRuling, Promise as RanksPromise}
-use Rattle.ranks.specs.declared.Answer.{Answer as RanksAnswer}
 use Rattle.ranks.proofs.Promised.{ranked-is, accepts}
 use Rattle.placements.specs.Placing.{remainder}
 use Rattle.placements.specs.Bands.{bands_of}
 use Rattle.placements.specs.Promise.{ruling as bandsRuling, Promise as BandsPromise}
-use Rattle.placements.specs.declared.Answer.{Answer as BandsAnswer}
-use Rattle.placements.specs.declared.Answer.TheVariants.{Accepted as Placed, Refused as Turned}
-use Rattle.placements.proofs.Promised.{tells as bands-tells, owes as bands-owes}
+use Rattle.placements.proofs.Promised.{owes as bands-owes}
 use Rattle.printed.specs.Report.{Columns, columns_of}
 use Rattle.printed.specs.InnerCohorts.{Populated, columns, Cohort, Placeable}
 
@@ -44,11 +43,11 @@ module _ (rate population : ℕ) (p : Populated rate population) where
   table_long before = ap length (table-drawn before) ∙ shape.long
 
 -- the remainder of an answer, 0 of a refusal
-abbrev pub remainder_in : BandsAnswer → ℕ
-remainder_in (Placed n) = n
-remainder_in (Turned x) = 0
+abbrev pub remainder_in : Result ℕ Refusal → ℕ
+remainder_in (Ok n) = n
+remainder_in (Err x) = 0
 
-pub placed-once : (n : ℕ) (x : Refusal) → Placed n ≡ Turned x → ⊥
+pub placed-once : (n : ℕ) (x : Refusal) → ◌≡◌ {A = Result ℕ Refusal} (Ok n) (Err x) → ⊥
 placed-once n x e = absurd (let z : ◌≡◌ {A = ℕ} 0 1 = cc in omega arith)
 
 module _ (rate population : ℕ) (aggregates : List ℕ) (p : Cohort aggregates rate population) where
@@ -70,22 +69,22 @@ module _ (rate population : ℕ) (aggregates : List ℕ) (p : Cohort aggregates 
       ) refl
 
   -- so what they leave is what is listed
-  pub all_ranked : (before after : Lent) {r : RanksAnswer} → length before.ranks ≡ length aggregates → length before.percentiles ≡ length aggregates
+  pub all_ranked : (before after : Lent) {r : Result (Unit {0}) Refusal} → length before.ranks ≡ length aggregates → length before.percentiles ≡ length aggregates
       → RanksPromise aggregates before r after → after ≡ ranked aggregates
   all_ranked before after a b g = ranked-is aggregates after (left_as (ranks-accept before.ranks before.percentiles a b) g)
 
-  pub all_placed : (before drawing table after : List ℕ) {r : BandsAnswer} → length before ≡ length aggregates → table ≡ drawn rate drawing
+  pub all_placed : (before drawing table after : List ℕ) {r : Result ℕ Refusal} → length before ≡ length aggregates → table ≡ drawn rate drawing
       → BandsPromise aggregates table population before r after
-      → (r ≡ Placed (remainder aggregates (table_of rate) population)) × (after ≡ bands_of aggregates (table_of rate) population)
+      → (r ≡ Ok (remainder aggregates (table_of rate) population)) × (after ≡ bands_of aggregates (table_of rate) population)
   all_placed before drawing table after {r} b h k =
       let m : BandsPromise aggregates (table_of rate) population before r after =
       subst (λ (x : List ℕ). BandsPromise aggregates x population before r after) (h ∙ table-drawn rate population p.populated drawing) k in
-      only-as bands-tells rules_is (bands-owes aggregates (table_of rate) population before) (bands-accept before b) m
+      only-as tells rules_is (bands-owes aggregates (table_of rate) population before) (bands-accept before b) m
 
 -- together, into buffers of their lengths
-pub all_listed : (rate population : ℕ) (c : Columns) → Placeable rate population c → (drawing table : List ℕ) {ranks percentiles bands : List ℕ} {r : RanksAnswer} {s : BandsAnswer}
+pub all_listed : (rate population : ℕ) (c : Columns) → Placeable rate population c → (drawing table : List ℕ) {ranks percentiles bands : List ℕ} {r : Result (Unit {0}) Refusal} {s : Result ℕ Refusal}
     → table ≡ drawn rate drawing → RanksPromise c.aggregates (lent c.ranks c.percentiles) r (lent ranks percentiles) → BandsPromise c.aggregates table population c.bands s bands
-    → (columns c.aggregates ranks percentiles bands ≡ columns_of c.aggregates (table_of rate) population) × (s ≡ Placed (remainder c.aggregates (table_of rate) population))
+    → (columns c.aggregates ranks percentiles bands ≡ columns_of c.aggregates (table_of rate) population) × (s ≡ Ok (remainder c.aggregates (table_of rate) population))
 all_listed rate population c p drawing table {ranks} {percentiles} {bands} h g k =
     let e = all_ranked rate population c.aggregates p.cohort (lent c.ranks c.percentiles) (lent ranks percentiles) p.even.ranks p.even.percentiles g in
     let f = all_placed rate population c.aggregates p.cohort c.bands drawing table bands p.even.bands h k in

@@ -7,7 +7,7 @@ use lib.ListN.{get_or}
 use Rattle.paper.specs.Limits.{most_aggregate}
 use Rattle.paper.specs.Rulings.{Outcome, accepted, refused}
 use Rattle.results.specs.Results.{student}
-use Rattle.sets.specs.Promise.{Values}
+use Rattle.sets.specs.declared.BestSet.{BestSet}
 use Rattle.sets.specs.Computed.{computed}
 use Rattle.sets.proofs.Scored.{aggregate-most}
 use Rattle.held.specs.Held.{Enrolled}
@@ -19,7 +19,7 @@ unfolding aggregates_of outcome
 aggregates-most catalogue table year [] i = omega arith
 aggregates-most catalogue table year (s ∷ ss) i = go (computed (student catalogue year s.results) table) refl (aggregates-most catalogue table year ss) i
   where
-    go : (o : Outcome Values) → computed (student catalogue year s.results) table ≡ o → ((i : ℕ) → get_or (aggregates_of (outcome catalogue table year) ss) i 0 ≤ most_aggregate)
+    go : (o : Outcome BestSet) → computed (student catalogue year s.results) table ≡ o → ((i : ℕ) → get_or (aggregates_of (outcome catalogue table year) ss) i 0 ≤ most_aggregate)
         → (i : ℕ) → get_or (with_aggregate o (aggregates_of (outcome catalogue table year) ss)) i 0 ≤ most_aggregate
     go (refused f) e h i = h i
     go (accepted v) e h zero = aggregate-most (student catalogue year s.results) table v (chosen (student catalogue year s.results) table v e)

@@ -11,7 +11,7 @@ use Rattle.paper.specs.Bytes.{word, long}
 use Rattle.paper.specs.Parts.{laid}
 use Rattle.catalogue.specs.Catalogue.{outside}
 use Rattle.results.specs.Counting.{usable, usable_at, shows_english}
-use Rattle.sets.specs.Promise.{Values}
+use Rattle.sets.specs.declared.BestSet.{BestSet}
 use Rattle.curve.specs.Population.{S, E}
 use Rattle.ranks.specs.Ranking.{ranks_of, percentiles_of}
 use Rattle.placements.specs.Placing.{remainder}
@@ -34,10 +34,10 @@ enrolled id = record { id = id; results = [] }
 abbrev five : List Enrolled
 five = enrolled 9 ∷ enrolled 7 ∷ enrolled 10 ∷ enrolled 8 ∷ enrolled 11 ∷ []
 
-abbrev gets : ℕ → Outcome Values
+abbrev gets : ℕ → Outcome BestSet
 gets aggregate = accepted (record { aggregate = aggregate; set = 31 })
 
-abbrev outcomes : Enrolled → Outcome Values
+abbrev outcomes : Enrolled → Outcome BestSet
 outcomes s =
     when s.id =? 7 then gets 36000
     else when s.id =? 8 then gets 35500

@@ -7,7 +7,8 @@ use lib.ListN.{length, get_or, length-append}
 use lib.Seq.{get_or-append_seam}
 use Rattle.paper.specs.Rulings.{Outcome, accepted, refused, number_of, place_of}
 use Rattle.results.specs.Results.{student}
-use Rattle.sets.specs.Promise.{Values, Ruled}
+use Rattle.sets.specs.Promise.{Ruled}
+use Rattle.sets.specs.declared.BestSet.{BestSet}
 use Rattle.curve.specs.Population.{Y, rate}
 use Rattle.curve.specs.Curve.{drawn}
 use Rattle.curve.proofs.Means.{counted}
@@ -40,42 +41,42 @@ unfolding outcome
 owed held s = computed-ruled (student held.catalogue held.year s.results) held.table
 
 -- the aggregates of some students and of those after them
-aggregates-join : (out : Enrolled → Outcome Values) (before rest : List Enrolled) → aggregates_of out (before ++ rest) ≡ aggregates_of out before ++ aggregates_of out rest
+aggregates-join : (out : Enrolled → Outcome BestSet) (before rest : List Enrolled) → aggregates_of out (before ++ rest) ≡ aggregates_of out before ++ aggregates_of out rest
 unfolding aggregates_of
 aggregates-join out [] rest = refl
 aggregates-join out (s ∷ before) rest = go (out s) (aggregates-join out before rest)
   where
-    go : (o : Outcome Values) → aggregates_of out (before ++ rest) ≡ aggregates_of out before ++ aggregates_of out rest
+    go : (o : Outcome BestSet) → aggregates_of out (before ++ rest) ≡ aggregates_of out before ++ aggregates_of out rest
         → with_aggregate o (aggregates_of out (before ++ rest)) ≡ with_aggregate o (aggregates_of out before) ++ aggregates_of out rest
     go (accepted v) e = ap (λ (l : List ℕ). v.aggregate ∷ l) e
     go (refused f) e = e
 
 -- an eligible student's place among the eligible is the number of those before, and the aggregate there its own
-own-aggregate : (out : Enrolled → Outcome Values) (before : List Enrolled) (s : Enrolled) (rest : List Enrolled) (v : Values) → out s ≡ accepted v
+own-aggregate : (out : Enrolled → Outcome BestSet) (before : List Enrolled) (s : Enrolled) (rest : List Enrolled) (v : BestSet) → out s ≡ accepted v
     → get_or (aggregates_of out (before ++ (s ∷ rest))) (length (aggregates_of out before)) 0 ≡ v.aggregate
 unfolding aggregates_of
 own-aggregate out before s rest v e =
     ap (λ (l : List ℕ). get_or l (length (aggregates_of out before)) 0) (aggregates-join out before (s ∷ rest))
-    ∙ ap (λ (o : Outcome Values). get_or (aggregates_of out before ++ with_aggregate o (aggregates_of out rest)) (length (aggregates_of out before)) 0) e
+    ∙ ap (λ (o : Outcome BestSet). get_or (aggregates_of out before ++ with_aggregate o (aggregates_of out rest)) (length (aggregates_of out before)) 0) e
     ∙ get_or-append_seam (aggregates_of out before) v.aggregate (aggregates_of out rest) 0
 
-own-within : (out : Enrolled → Outcome Values) (before : List Enrolled) (s : Enrolled) (rest : List Enrolled) (v : Values) → out s ≡ accepted v
+own-within : (out : Enrolled → Outcome BestSet) (before : List Enrolled) (s : Enrolled) (rest : List Enrolled) (v : BestSet) → out s ≡ accepted v
     → length (aggregates_of out before) < length (aggregates_of out (before ++ (s ∷ rest)))
 unfolding aggregates_of
 own-within out before s rest v e =
     let w : length (aggregates_of out (before ++ (s ∷ rest))) ≡ length (aggregates_of out before) + suc (length (aggregates_of out rest)) =
     ap length (aggregates-join out before (s ∷ rest)) ∙ length-append (aggregates_of out before) (with_aggregate (out s) (aggregates_of out rest))
-    ∙ ap (λ (o : Outcome Values). length (aggregates_of out before) + length (with_aggregate o (aggregates_of out rest))) e in
+    ∙ ap (λ (o : Outcome BestSet). length (aggregates_of out before) + length (with_aggregate o (aggregates_of out rest))) e in
     omega arith
 
 -- and its line is written with that place
-lines_join : (out : Enrolled → Outcome Values) (c : Columns) (j : ℕ) (before rest : List Enrolled)
+lines_join : (out : Enrolled → Outcome BestSet) (c : Columns) (j : ℕ) (before rest : List Enrolled)
     → lines_of out c j (before ++ rest) ≡ lines_of out c j before ++ lines_of out c (j + length (aggregates_of out before)) rest
 unfolding lines_of aggregates_of
 lines_join out c j [] rest = let e : j ≡ j + 0 = omega arith in ap (λ (n : ℕ). lines_of out c n rest) e
 lines_join out c j (s ∷ before) rest = go (out s) (λ n. lines_join out c n before rest)
   where
-    go : (o : Outcome Values)
+    go : (o : Outcome BestSet)
         → ((n : ℕ) → lines_of out c n (before ++ rest) ≡ lines_of out c n before ++ lines_of out c (n + length (aggregates_of out before)) rest)
         → line_of c j s.id o ++ lines_of out c (after_one j o) (before ++ rest)
         ≡ (line_of c j s.id o ++ lines_of out c (after_one j o) before)
@@ -87,7 +88,7 @@ lines_join out c j (s ∷ before) rest = go (out s) (λ n. lines_join out c n be
 
 -- a file that is accepted, and one of its students with those before
 module _ (file : List ℕ) (held : Held) (reads : reading file ≡ accepted held) where
-  abbrev out : Enrolled → Outcome Values
+  abbrev out : Enrolled → Outcome BestSet
   out = outcome_of held
 
   abbrev cols : Columns
@@ -119,7 +120,7 @@ module _ (file : List ℕ) (held : Held) (reads : reading file ≡ accepted held
       zero_more = omega arith
 
   -- of an eligible student
-  pub estimated : (before : List Enrolled) (s : Enrolled) (rest : List Enrolled) (v : Values) → held.students ≡ before ++ (s ∷ rest) → out s ≡ accepted v
+  pub estimated : (before : List Enrolled) (s : Enrolled) (rest : List Enrolled) (v : BestSet) → held.students ≡ before ++ (s ∷ rest) → out s ≡ accepted v
       → Estimated file held s (length (aggregates_of out before))
   unfolding outcome
   estimated before s rest v e a =
@@ -134,7 +135,7 @@ module _ (file : List ℕ) (held : Held) (reads : reading file ≡ accepted held
         own = own;
         bands = bands_of (eligible_of held) (participation held.figures) (Y held.figures);
         best = best-exists (eligible_of held) (participation held.figures) (Y held.figures);
-        printed = subst (λ (line : List ℕ). In line (text_of file)) (line_is j own (r.ranks_are j within) (r.percentiles_are j within)) (subst (λ (o : Outcome Values). In (line_of cols j s.id o) (text_of file)) a (printed before s rest e));
+        printed = subst (λ (line : List ℕ). In line (text_of file)) (line_is j own (r.ranks_are j within) (r.percentiles_are j within)) (subst (λ (o : Outcome BestSet). In (line_of cols j s.id o) (text_of file)) a (printed before s rest e));
       }
     where
       line_is : (j : ℕ) → get_or (eligible_of held) j 0 ≡ v.aggregate → get_or (ranks_of (eligible_of held)) j 0 ≡ rank (eligible_of held) j
@@ -146,7 +147,7 @@ module _ (file : List ℕ) (held : Held) (reads : reading file ≡ accepted held
   -- of a refused student, who refuses nobody else
   pub turned : (before : List Enrolled) (s : Enrolled) (rest : List Enrolled) (f : _) → held.students ≡ before ++ (s ∷ rest) → out s ≡ refused f
       → In (refused_line s.id (number_of f) (place_of f)) (text_of file)
-  turned before s rest f e a = subst (λ (o : Outcome Values). In (line_of cols (length (aggregates_of out before)) s.id o) (text_of file)) a (printed before s rest e)
+  turned before s rest f e a = subst (λ (o : Outcome BestSet). In (line_of cols (length (aggregates_of out before)) s.id o) (text_of file)) a (printed before s rest e)
 
   cohort-is : Cohort (eligible_of held) (rate held.figures) (Y held.figures)
   cohort-is =

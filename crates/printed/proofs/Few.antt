@@ -5,17 +5,17 @@ use mathlib.Core.List.{List, [], ◌∷◌}
 use lib.ListN.{length}
 use Rattle.paper.specs.Rulings.{Outcome, accepted, refused}
 use Rattle.paper.proofs.Listing.{count-within}
-use Rattle.sets.specs.Promise.{Values}
+use Rattle.sets.specs.declared.BestSet.{BestSet}
 use Rattle.placements.specs.Placing.{remainder, left_over}
 use Rattle.held.specs.Held.{Enrolled}
 use Rattle.printed.specs.Report.{with_aggregate, aggregates_of}
 
-pub eligible-within : (out : Enrolled → Outcome Values) (ss : List Enrolled) → length (aggregates_of out ss) ≤ length ss
+pub eligible-within : (out : Enrolled → Outcome BestSet) (ss : List Enrolled) → length (aggregates_of out ss) ≤ length ss
 unfolding aggregates_of
 eligible-within out [] = omega arith
 eligible-within out (s ∷ ss) = go (out s) (eligible-within out ss)
   where
-    go : (o : Outcome Values) → length (aggregates_of out ss) ≤ length ss → length (with_aggregate o (aggregates_of out ss)) ≤ suc (length ss)
+    go : (o : Outcome BestSet) → length (aggregates_of out ss) ≤ length ss → length (with_aggregate o (aggregates_of out ss)) ≤ suc (length ss)
     go (accepted v) h = omega arith
     go (refused f) h = omega arith
 

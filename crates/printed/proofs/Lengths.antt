@@ -11,7 +11,7 @@ use Rattle.paper.specs.Rulings.{Fault, place_of, number_of, Outcome, accepted, r
 use Rattle.paper.proofs.Ruled.{OfTable, Refusing, IfRefused, short-number}
 use Rattle.catalogue.specs.Catalogue.{subjects}
 use Rattle.results.specs.Results.{Student, student, held}
-use Rattle.sets.specs.Promise.{Values}
+use Rattle.sets.specs.declared.BestSet.{BestSet}
 use Rattle.sets.proofs.Meeting.{computed-tabled}
 use Rattle.sets.proofs.Places.{Near, place-near}
 use Rattle.curve.specs.Population.{Y}
@@ -64,7 +64,7 @@ module _ (file : List ℕ) (bytes : (i : ℕ) → byte file i < 256) (so : Held)
   good : Sound so
   good = sound file so reads
 
-  abbrev out : Enrolled → Outcome Values
+  abbrev out : Enrolled → Outcome BestSet
   out = outcome_of so
 
   abbrev shares : List ℕ
@@ -80,7 +80,7 @@ module _ (file : List ℕ) (bytes : (i : ℕ) → byte file i < 256) (so : Held)
       one : Student
       one = student so.catalogue so.year s.results
 
-      go : (o : Outcome Values) → Refusing o → IfRefused (Near one so.table) o → length (line_of (columns_of (eligible_of so) shares (Y so.figures)) j s.id o) ≤ line_bytes
+      go : (o : Outcome BestSet) → Refusing o → IfRefused (Near one so.table) o → length (line_of (columns_of (eligible_of so) shares (Y so.figures)) j s.id o) ≤ line_bytes
       go (accepted v) t n = eligible-short shares (Y so.figures) (eligible_of so) (aggregates-most so.catalogue so.table so.year so.students) few j s.id h
       go (refused f) t n = refused-short one so.table s.id f h good.few_subjects r.1 t n
 

@@ -1,7 +1,8 @@
 -- What a listing tells of an eligible student, in the demands' own terms.
 use Rattle.std.specs.Prelude.{ℕ, ◌≡◌, ◌⊎◌, List, [], ◌∷◌, ◌++◌, length, get_or}
 use Rattle.results.specs.Results.{student}
-use Rattle.sets.specs.Promise.{Values, Chosen}
+use Rattle.sets.specs.Promise.{Chosen}
+use Rattle.sets.specs.declared.BestSet.{BestSet}
 use Rattle.curve.specs.Population.{Y}
 use Rattle.ranks.specs.Ranking.{rank, percentile}
 use Rattle.placements.specs.Placing.{BestPlacement}
@@ -24,7 +25,7 @@ pub record In (line text : List ℕ) : Type 0 where
 -- the j-th of the eligible: the aggregate is that of the greatest total over all admissible sets of its results, the band is that of the best
 -- placement, over all placements, of the eligible, and these are printed with its rank and percentile among the eligible
 pub record Estimated (file : List ℕ) (held : Held) (s : Enrolled) (j : ℕ) : Type 0 where
-  pub values : Values
+  pub values : BestSet
   pub greatest : Chosen (student held.catalogue held.year s.results) held.table values
   pub own : get_or (eligible_of held) j 0 ≡ values.aggregate
   pub bands : List ℕ

@@ -2,7 +2,7 @@
 use Rattle.std.specs.Prelude.{ℕ, suc, List, [], ◌∷◌, ◌++◌, length, get_or}
 use Rattle.paper.specs.Rulings.{Outcome, accepted, refused, number_of, place_of}
 use Rattle.results.specs.Results.{student}
-use Rattle.sets.specs.Promise.{Values}
+use Rattle.sets.specs.declared.BestSet.{BestSet}
 use Rattle.sets.specs.Computed.{computed}
 use Rattle.curve.specs.Population.{Y, rate}
 use Rattle.curve.specs.Curve.{table_of}
@@ -14,15 +14,15 @@ use Rattle.held.specs.Reading.{reading}
 use Rattle.listing.specs.Lines.{cohort_line, student_line, refused_line, file_line}
 
 -- a student's best set, or why there is none
-unfoldable pub outcome : List ℕ → List ℕ → ℕ → Enrolled → Outcome Values
+unfoldable pub outcome : List ℕ → List ℕ → ℕ → Enrolled → Outcome BestSet
 outcome catalogue table year s = computed (student catalogue year s.results) table
 
 -- the aggregates of the eligible, who alone are the cohort, in file order
-abbrev pub with_aggregate : Outcome Values → List ℕ → List ℕ
+abbrev pub with_aggregate : Outcome BestSet → List ℕ → List ℕ
 with_aggregate (accepted v) rest = v.aggregate ∷ rest
 with_aggregate (refused f) rest = rest
 
-unfoldable pub aggregates_of : (Enrolled → Outcome Values) → List Enrolled → List ℕ
+unfoldable pub aggregates_of : (Enrolled → Outcome BestSet) → List Enrolled → List ℕ
 aggregates_of outcomes [] = []
 aggregates_of outcomes (s ∷ students) = with_aggregate (outcomes s) (aggregates_of outcomes students)
 
@@ -38,15 +38,15 @@ abbrev pub eligible_line : Columns → ℕ → ℕ → List ℕ
 eligible_line c j id = student_line id (get_or c.aggregates j 0) (get_or c.ranks j 0) (get_or c.percentiles j 0) (get_or c.bands j 0)
 
 -- a line per student in file order; j students before them are eligible
-abbrev pub line_of : Columns → ℕ → ℕ → Outcome Values → List ℕ
+abbrev pub line_of : Columns → ℕ → ℕ → Outcome BestSet → List ℕ
 line_of c j id (accepted v) = eligible_line c j id
 line_of c j id (refused f) = refused_line id (number_of f) (place_of f)
 
-abbrev pub after_one : ℕ → Outcome Values → ℕ
+abbrev pub after_one : ℕ → Outcome BestSet → ℕ
 after_one j (accepted v) = suc j
 after_one j (refused f) = j
 
-unfoldable pub lines_of : (Enrolled → Outcome Values) → Columns → ℕ → List Enrolled → List ℕ
+unfoldable pub lines_of : (Enrolled → Outcome BestSet) → Columns → ℕ → List Enrolled → List ℕ
 lines_of outcomes c j [] = []
 lines_of outcomes c j (s ∷ students) = line_of c j s.id (outcomes s) ++ lines_of outcomes c (after_one j (outcomes s)) students
 
@@ -60,7 +60,7 @@ columns_of aggregates table Y = record {
 }
 
 -- outcomes, participation table, Y and the students: the listing of a cohort is the cohort's line, then a line per student
-abbrev pub listed : (Enrolled → Outcome Values) → List ℕ → ℕ → List Enrolled → List ℕ
+abbrev pub listed : (Enrolled → Outcome BestSet) → List ℕ → ℕ → List Enrolled → List ℕ
 listed outcomes table Y students =
     let eligible = aggregates_of outcomes students in
     cohort_line (length students) (length eligible) (remainder eligible table Y)
@@ -71,7 +71,7 @@ abbrev pub participation : List ℕ → List ℕ
 participation figures = table_of (rate figures)
 
 -- the outcomes of what a file holds, and its eligible
-abbrev pub outcome_of : Held → Enrolled → Outcome Values
+abbrev pub outcome_of : Held → Enrolled → Outcome BestSet
 outcome_of held = outcome held.catalogue held.table held.year
 
 abbrev pub eligible_of : Held → List ℕ

@@ -17,18 +17,17 @@ use Rattle.listing.specs.Lines.{file_line}
 use Rattle.held.specs.Held.{Enrolled, Held, nothing, ids_of, counts_of, results_of}
 use Rattle.held.specs.Meaning.{Each, FewResults, Sound}
 use Rattle.held.specs.Reading.{reading}
-use Rattle.held.specs.Promise.{said, Lent, lent, written, summary_of, Promise}
+use Rattle.paper.specs.Promises.{said}
+use Rattle.held.specs.Promise.{Lent, lent, written, summary_of, Promise}
 use Rattle.cohort.specs.Inner.{Sized}
 use Rattle.held.specs.declared.Summary.{Summary}
-use Rattle.held.specs.declared.Answer.{Answer}
-use Rattle.held.specs.declared.Answer.TheVariants.{Refused}
+use Rattle.std.proofs.Common.{Result, Ok, Err}
 use Rattle.held.proofs.Holding.{sound}
 use Rattle.paper.proofs.Parted.{take-start, laid-start, length-laid}
 use Rattle.held.proofs.Pupils.{length_ids, length-counts}
 use Rattle.printed.specs.Sizes.{text_bytes}
 use Rattle.printed.specs.Report.{outcome, listed, text_of_outcome, text_of}
 use Rattle.printed.specs.Promise.{Promise as Printed}
-use Rattle.printed.specs.declared.Answer.TheVariants.{Accepted}
 use Rattle.printed.proofs.Promised.{room}
 use Rattle.outcomes.specs.Inner.{students_in}
 use Rattle.lines.specs.Inner.{Put}
@@ -40,7 +39,7 @@ abbrev fault_line : Outcome Summary → List ℕ
 fault_line (accepted v) = []
 fault_line (refused f) = file_line (number_of f) (place_of f)
 
-pub refused-text : (file : List ℕ) (old : Lent) (r : Answer) (new : Lent) (x : Refusal) → r ≡ Refused x → Promise file old r new
+pub refused-text : (file : List ℕ) (old : Lent) (r : Result Summary Refusal) (new : Lent) (x : Refusal) → r ≡ Err x → Promise file old r new
     → file_line (number_of (fault x)) (place_of (fault x)) ≡ text_of file
 unfolding text_of
 refused-text file old r new x e h = go (reading file) (ap said (sym e) ∙ h.says)
@@ -65,7 +64,7 @@ pub record Taken (file : List ℕ) (old new : Lent) (v : Summary) : Type 0 where
   pub values : v ≡ summary_of held
   pub left : new ≡ written held old
 
-pub taken : (file : List ℕ) (old : Lent) (r : Answer) (new : Lent) (v : Summary) → said r ≡ accepted v → Promise file old r new → Taken file old new v
+pub taken : (file : List ℕ) (old : Lent) (r : Result Summary Refusal) (new : Lent) (v : Summary) → said r ≡ accepted v → Promise file old r new → Taken file old new v
 taken file old r new v e h = go (reading file) refl (sym e ∙ h.says)
   where
     go : (o : Outcome Held) → reading file ≡ o → accepted v ≡ mapped summary_of o → Taken file old new v
@@ -157,7 +156,7 @@ module _ (file : List ℕ) (old new : Lent) (v : Summary) (b : Sized old) (w : T
 
 -- so a text that is put as the file's is what is promised
 module _ (file before : List ℕ) where
-  pub text_put : (after : List ℕ) (n : ℕ) → length before ≡ text_bytes → Put before after 0 n (text_of file) → Printed file before (Accepted n) after
+  pub text_put : (after : List ℕ) (n : ℕ) → length before ≡ text_bytes → Put before after 0 n (text_of file) → Printed file before (Ok n) after
   text_put after n l p =
       let z : n ≡ length (text_of file) = omega (arith, p.ends) in
       record { says = ap accepted z ∙ sym (room file before l); leaves = p.content }

@@ -13,7 +13,7 @@ use Rattle.paper.specs.Lists.{pick}
 use Rattle.paper.specs.Rulings.{Outcome, accepted, refused, number_of, number_in, place_in}
 use Rattle.paper.proofs.Ruled.{Refusing, some_number}
 use Rattle.results.specs.Results.{student}
-use Rattle.sets.specs.Promise.{Values}
+use Rattle.sets.specs.declared.BestSet.{BestSet}
 use Rattle.sets.proofs.Meeting.{computed-tabled}
 use Rattle.ranks.proofs.Promised.{computed as ranks-computed}
 use Rattle.placements.specs.Placing.{remainder}
@@ -28,15 +28,15 @@ use Rattle.report.specs.Inner.{listed_noted}
 use Rattle.lines.proofs.Lining.{eligible-least}
 
 -- what is noted of a student tells its line and whether it is eligible
-line_told : (c : Columns) (j id : ℕ) (o : Outcome Values) → Refusing o → line_noted c j id (number_in o) (place_in o) ≡ line_of c j id o
+line_told : (c : Columns) (j id : ℕ) (o : Outcome BestSet) → Refusing o → line_noted c j id (number_in o) (place_in o) ≡ line_of c j id o
 line_told c j id (accepted v) h = refl
 line_told c j id (refused f) h = rw (ne_eqb (number_of f) 0 (λ e. omega (arith, some_number f h))) refl
 
-after-told : (j : ℕ) (o : Outcome Values) → Refusing o → after_noted j (number_in o) ≡ after_one j o
+after-told : (j : ℕ) (o : Outcome BestSet) → Refusing o → after_noted j (number_in o) ≡ after_one j o
 after-told j (accepted v) h = refl
 after-told j (refused f) h = rw (ne_eqb (number_of f) 0 (λ e. omega (arith, some_number f h))) refl
 
-module _ (out : Enrolled → Outcome Values) (tabled : (s : Enrolled) → Refusing (out s)) where
+module _ (out : Enrolled → Outcome BestSet) (tabled : (s : Enrolled) → Refusing (out s)) where
   lines_told : (c : Columns) (j : ℕ) (ss : List Enrolled) → lines_noted c j (ids_of ss) (numbers_of out ss) (places_of out ss) ≡ lines_of out c j ss
   unfolding lines_noted lines_of
   lines_told c j [] = refl
@@ -48,7 +48,7 @@ module _ (out : Enrolled → Outcome Values) (tabled : (s : Enrolled) → Refusi
   eligible-told j [] = omega arith
   eligible-told j (s ∷ ss) = ap (λ (k : ℕ). eligible_noted k (numbers_of out ss)) (after-told j (out s) (tabled s)) ∙ go (out s) (λ k. eligible-told k ss)
     where
-      go : (o : Outcome Values) → ((k : ℕ) → eligible_noted k (numbers_of out ss) ≡ k + length (aggregates_of out ss))
+      go : (o : Outcome BestSet) → ((k : ℕ) → eligible_noted k (numbers_of out ss) ≡ k + length (aggregates_of out ss))
           → eligible_noted (after_one j o) (numbers_of out ss) ≡ j + length (with_aggregate o (aggregates_of out ss))
       go (accepted v) r = omega (arith, r (suc j))
       go (refused f) r = r j
@@ -111,7 +111,7 @@ number-in (suc n) ids counts results = ap suc (number-in n (drop 1 ids) (drop 1 
 
 -- so the listing of what is noted is that of the students
 module _ (catalogue table : List ℕ) (year : ℕ) (shares : List ℕ) (Y : ℕ) (ids counts results : List ℕ) where
-  abbrev out : Enrolled → Outcome Values
+  abbrev out : Enrolled → Outcome BestSet
   out = outcome catalogue table year
 
   abbrev those : List Enrolled

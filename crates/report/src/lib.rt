@@ -16,7 +16,6 @@ use paper::limits::{
     TABLE_BYTES,
 };
 use paper::refusal::Refusal;
-use printed::Answer;
 
 mod placing;
 
@@ -80,7 +79,7 @@ fn list_read(
         (students_in (length counts.old) ids.now counts.old results.now)) }
 {
     let students = counts.len();
-    let year = summary.year as u64;
+    let year = u64::from(summary.year);
     let mut aggregates = [0u32; MOST_STUDENTS];
     let mut places = [0u8; MOST_STUDENTS];
     let n = outcomes::collect(
@@ -125,8 +124,8 @@ fn list_file(file: &[u8], text: &mut [u8]) -> usize
         &mut results,
     );
     match read {
-        held::Answer::Refused(x) => lines::writing::append(text, 0, listing::file_line(x)),
-        held::Answer::Accepted(summary) => {
+        Err(x) => lines::writing::append(text, 0, listing::file_line(x)),
+        Ok(summary) => {
             let c = ENTRY_BYTES * summary.subjects;
             let t = ROW_BYTES * summary.subjects;
             let students = summary.students;
@@ -144,12 +143,11 @@ fn list_file(file: &[u8], text: &mut [u8]) -> usize
 }
 
 // The listing of a file, in a lent text buffer of 65536 bytes. A refusal writes nothing.
-pub fn report(file: &[u8], text: &mut [u8]) -> Answer
+pub fn report(file: &[u8], text: &mut [u8]) -> Result<usize, Refusal>
     ensures { Promise file.now text.old result text.new }
 {
     if text.len() != TEXT_BYTES {
-        return Answer::Refused(Refusal::WrongLength);
+        return Err(Refusal::WrongLength);
     }
-    let length = list_file(file, text);
-    Answer::Accepted { length }
+    Ok(list_file(file, text))
 }

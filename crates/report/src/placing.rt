@@ -23,11 +23,6 @@ pub(crate) fn place(
 {
     let mut table = [0u32; BAND_COUNT];
     curve::draw(rate, &mut table);
-    ranks::ranks(aggregates, ranks, percentiles);
-    let placed = bands::place(aggregates, &table, population, bands);
-    let mut left = 0;
-    if let placements::Answer::Accepted { remainder } = placed {
-        left = remainder;
-    }
-    left
+    let _ = ranks::ranks(aggregates, ranks, percentiles);
+    bands::place(aggregates, &table, population, bands).unwrap_or(0)
 }

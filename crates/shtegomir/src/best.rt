@@ -2,7 +2,7 @@
 ghost use Rattle.results.specs.Results.{student};
 ghost use Rattle.told.specs.Best.{BestCalled};
 
-use told::best::{Best, flatten};
+use told::best::Best;
 
 // The year has 32 bits, so that a caller's wrong year is refused and never cut to a right one.
 #[unsafe(no_mangle)]
@@ -14,5 +14,5 @@ pub extern "C" fn shtegomir_best_set(
 ) -> Best
     ensures { BestCalled (student catalogue.now year results.now) table.now result }
 {
-    flatten(bestset::best_set(catalogue, table, year as u64, results))
+    Best::from(bestset::best_set(catalogue, table, u64::from(year), results))
 }

@@ -1,7 +1,6 @@
 // First scaled scores of a subject, from counts.
 ghost use Rattle.told.specs.Scoring.{ScoresCalled};
 
-use told::scoring::flatten;
 use told::telling::Told;
 
 #[unsafe(no_mangle)]
@@ -13,5 +12,5 @@ pub extern "C" fn shtegomir_first_scores(
 ) -> Told
     ensures { ScoresCalled kind subject counts.now table.old result table.new }
 {
-    flatten(initial::first_scores(kind, subject, counts, table))
+    Told::from(initial::first_scores(kind, subject, counts, table))
 }

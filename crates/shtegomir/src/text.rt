@@ -1,11 +1,11 @@
 // The listing of a cohort file.
 ghost use Rattle.told.specs.Text.{ReportCalled};
 
-use told::text::{Text, flatten};
+use told::text::Text;
 
 #[unsafe(no_mangle)]
 pub extern "C" fn shtegomir_report(file: &[u8], text: &mut [u8]) -> Text
     ensures { ReportCalled file.now text.old result text.new }
 {
-    flatten(report::report(file, text))
+    Text::from(report::report(file, text))
 }

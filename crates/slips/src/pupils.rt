@@ -1,9 +1,11 @@
 // The subjects of the paper's example, and Geography; their scores; students' results.
 use crate::saying;
+use arrayvec::ArrayVec;
 use paper::limits::{ENTRY_BYTES, RESULT_BYTES, ROW_BYTES, SCORE_PARTS, SLOTS};
 use scores::rows;
 use scores::slots::{Raw, Scaled};
-use sets::Answer;
+use paper::refusal::Refusal;
+use sets::BestSet;
 use std::io::Stdout;
 
 // Places in the catalogue.
@@ -31,12 +33,10 @@ const CATALOGUE: usize = SUBJECTS * ENTRY_BYTES;
 pub(crate) const TABLE: usize = SUBJECTS * ROW_BYTES;
 
 // The last slot of a row.
-const LAST_SLOT: u32 = SLOTS as u32;
+const LAST_SLOT: u8 = SLOTS as u8;
 
-// The bytes of six results, and of those before the last.
+// The bytes of six results.
 const RESULTS: usize = 6 * RESULT_BYTES;
-
-const LAST: usize = RESULTS - RESULT_BYTES;
 
 // A subject's kind, strand and identity; its level is 0.
 fn subject(catalogue: &mut [u8; CATALOGUE], place: usize, kind: u8, strand: u8, identity: u8) {
@@ -63,10 +63,13 @@ fn catalogue() -> [u8; CATALOGUE] {
 
 // Slot j of a General subject scores j.00.
 fn general(table: &mut [u8], subject: usize) {
-    let mut slot = 1u32;
-    while slot <= LAST_SLOT {
-        rows::store(table, subject, Raw(slot as u8), Scaled(SCORE_PARTS * slot));
-        slot += 1;
+    for slot in 1..=LAST_SLOT {
+        rows::store(
+            table,
+            subject,
+            Raw(slot),
+            Scaled(SCORE_PARTS * u32::from(slot)),
+        );
     }
 }
 
@@ -84,33 +87,25 @@ pub(crate) fn scores() -> [u8; TABLE] {
     table
 }
 
-// The bytes of six results.
+// The bytes of up to six results.
 #[derive(Drop)]
 pub(crate) struct Results {
-    bytes: [u8; RESULTS],
-    length: usize,
+    bytes: ArrayVec<u8, RESULTS>,
 }
 
 impl Results {
     // No results yet.
     pub(crate) fn none() -> Results {
         Results {
-            bytes: [0; RESULTS],
-            length: 0,
+            bytes: ArrayVec::new(),
         }
     }
 
-    // And one of a year.
+    // And one of a year, where there is room for it.
     pub(crate) fn dated(mut self, subject: u8, letter: u8, number: u8, year: u16) -> Results {
-        let at = self.length;
-        if at <= LAST {
-            self.bytes[at + 1] = subject;
-            self.bytes[at + 2] = letter;
-            self.bytes[at + 3] = number;
-            self.bytes[at + 4] = (year / 256) as u8;
-            self.bytes[at + 5] = (year % 256) as u8;
-            self.length = at + RESULT_BYTES;
-        }
+        let [high, low] = year.to_be_bytes();
+        let result = [0, subject, letter, number, high, low];
+        let _ = self.bytes.try_extend_from_slice(&result);
         self
     }
 
@@ -121,28 +116,22 @@ impl Results {
 }
 
 // The aggregate and the set, or the refusal.
-fn told(out: Stdout, answer: Answer) {
+fn told(out: Stdout, answer: Result<BestSet, Refusal>) {
     match answer {
-        Answer::Accepted { aggregate, set } => {
-            saying::hundredths(out, aggregate as u64);
+        Ok(best) => {
+            saying::hundredths(out, best.aggregate);
             saying::text(out, b" set ");
-            saying::number(out, set as u64);
+            saying::number(out, best.set);
             saying::text(out, b"\n");
         }
-        Answer::Refused(x) => saying::refused(out, x),
+        Err(x) => saying::refused(out, x),
     }
-}
-
-// The best set of six results.
-fn chosen(out: Stdout, catalogue: &[u8; CATALOGUE], table: &[u8; TABLE], results: &[u8; RESULTS]) {
-    let answer = bestset::best_set(catalogue, table, 2021, results);
-    told(out, answer);
 }
 
 // What is asked, and the best set in 2021.
 pub(crate) fn best(out: Stdout, what: &[u8], table: &[u8; TABLE], results: Results) {
     saying::text(out, what);
     let subjects = catalogue();
-    let bytes = results.bytes;
-    chosen(out, &subjects, table, &bytes);
+    let bytes = results.bytes.as_slice();
+    told(out, bestset::best_set(&subjects, table, 2021, bytes));
 }

@@ -1,9 +1,8 @@
 // The slips that the office has met: each is not made.
 use crate::pupils::Results;
 use crate::{pupils, saying};
-use curve::Answer as Curved;
 use paper::limits::{BAND_COUNT, MOST_ENTRY, TALLY_COUNT};
-use placements::Answer;
+use paper::refusal::Refusal;
 use std::io::Stdout;
 
 // Student 7, whom five highest first, rules after, refuses.
@@ -47,24 +46,22 @@ fn sets(out: Stdout) {
 
 // Each band's ATAR.
 fn atars(out: Stdout, bands: &[u16]) {
-    let mut i = 0;
-    while i < bands.len() {
-        saying::atar(out, bands[i]);
-        i += 1;
+    for band in bands {
+        saying::atar(out, *band);
     }
 }
 
 // What is asked, the bands and the remainder, or the refusal.
-fn placed(out: Stdout, what: &[u8], answer: Answer, bands: &[u16]) {
+fn placed(out: Stdout, what: &[u8], answer: Result<usize, Refusal>, bands: &[u16]) {
     saying::text(out, what);
     match answer {
-        Answer::Accepted { remainder } => {
+        Ok(remainder) => {
             atars(out, bands);
             saying::text(out, b"remainder ");
-            saying::number(out, remainder as u64);
+            saying::number(out, remainder);
             saying::text(out, b"\n");
         }
-        Answer::Refused(x) => saying::refused(out, x),
+        Err(x) => saying::refused(out, x),
     }
 }
 
@@ -116,13 +113,13 @@ fn undivided(out: Stdout) {
     let mut table = [0u32; BAND_COUNT];
     let answer = curve::curve(&figures, &mut table);
     saying::text(out, b"not dividing by 0 at r=7500: ");
-    if let Curved::Refused(x) = answer {
+    if let Err(x) = answer {
         saying::refused(out, x);
         return;
     }
-    saying::entry(out, table[0]);
+    saying::number(out, table[0]);
     saying::text(out, b" ");
-    saying::entry(out, table[1]);
+    saying::number(out, table[1]);
     saying::text(out, b"\n");
 }
 

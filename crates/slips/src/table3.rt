@@ -1,6 +1,6 @@
 // Table 3 of the technical document, of 51493 students: its rows, and the others between Lauren and Anna.
 use crate::saying;
-use ranks::Answer;
+use paper::refusal::Refusal;
 use std::io::Stdout;
 
 // The students of the table.
@@ -8,10 +8,8 @@ const STUDENTS: usize = 51493;
 
 // Polyranks in hundredths: 0.12 to 96.25, again and again, so that they are above Anna's and below Lauren's.
 fn between(values: &mut [u32; STUDENTS]) {
-    let mut i = 0;
-    while i < STUDENTS {
-        values[i] = 12 + (i % 9614) as u32;
-        i += 1;
+    for (i, value) in values.iter_mut().enumerate() {
+        *value = 12 + (i % 9614) as u32;
     }
 }
 
@@ -33,7 +31,7 @@ fn ranked(
     values: &[u32; STUDENTS],
     ranks: &mut [u32; STUDENTS],
     percentiles: &mut [u32; STUDENTS],
-) -> Answer {
+) -> Result<(), Refusal> {
     ranks::ranks(values, ranks, percentiles)
 }
 
@@ -42,11 +40,11 @@ fn row(out: Stdout, name: &[u8], value: u32, rank: u32, percentile: u32) {
     saying::text(out, b"Table 3: ");
     saying::text(out, name);
     saying::text(out, b" ");
-    saying::hundredths(out, value as u64);
+    saying::hundredths(out, value);
     saying::text(out, b" rank ");
-    saying::number(out, rank as u64);
+    saying::number(out, rank);
     saying::text(out, b" percentile ");
-    saying::thousandths(out, percentile as u64);
+    saying::thousandths(out, percentile);
     saying::text(out, b"\n");
 }
 
@@ -57,7 +55,7 @@ pub(crate) fn run(out: Stdout) {
     between(&mut values);
     named(&mut values);
     let answer = ranked(&values, &mut ranks, &mut percentiles);
-    if let Answer::Refused(x) = answer {
+    if let Err(x) = answer {
         saying::refused(out, x);
         return;
     }

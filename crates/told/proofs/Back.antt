@@ -4,8 +4,8 @@ use native.Mathlib.Omega.{arith}
 use mathlib.Core.Path.{◌≡◌, refl, ap}
 use Rattle.paper.specs.Rulings.{Fault, ◌at◌, Outcome, accepted, refused, values_or, number_of, place_of}
 use Rattle.paper.proofs.Ruled.{Refusing, some_number}
-use Rattle.sets.specs.Promise.{Values as BestValues}
-use Rattle.curve.specs.Promise.{Values as CurveValues}
+use Rattle.sets.specs.declared.BestSet.{BestSet}
+use Rattle.curve.specs.declared.Participation.{Participation}
 use Rattle.told.specs.Telling.{told, Reads}
 use Rattle.told.specs.Best.{flat_best, no_values as noBest}
 use Rattle.told.specs.Participation.{flat_curve, no_values as noCurve}
@@ -32,22 +32,22 @@ reads none (accepted v) g = record { tells = refl; given = refl }
 reads none (refused f) g = record { tells = refl; some = some_number f g; nothing = refl }
 
 -- for each struct: the outcome is told back, and C reads it
-abbrev best_values : Best → BestValues
+abbrev best_values : Best → BestSet
 best_values s = record { aggregate = s.aggregate; set = s.set }
 
-pub best-back : (o p : Outcome BestValues) → Refusing o → Refusing p → flat_best o ≡ flat_best p → o ≡ p
+pub best-back : (o p : Outcome BestSet) → Refusing o → Refusing p → flat_best o ≡ flat_best p → o ≡ p
 best-back o p g h e = told_back noBest o p g h (ap (λ s. s.told) e) (ap best_values e)
 
-pub best-reads : (o : Outcome BestValues) → Refusing o → Reads noBest o (flat_best o).told (best_values (flat_best o))
+pub best-reads : (o : Outcome BestSet) → Refusing o → Reads noBest o (flat_best o).told (best_values (flat_best o))
 best-reads = reads noBest
 
-abbrev curve_values : Curve → CurveValues
+abbrev curve_values : Curve → Participation
 curve_values s = record { population = s.population; rate = s.rate }
 
-pub curve_back : (o p : Outcome CurveValues) → Refusing o → Refusing p → flat_curve o ≡ flat_curve p → o ≡ p
+pub curve_back : (o p : Outcome Participation) → Refusing o → Refusing p → flat_curve o ≡ flat_curve p → o ≡ p
 curve_back o p g h e = told_back noCurve o p g h (ap (λ s. s.told) e) (ap curve_values e)
 
-pub curve_reads : (o : Outcome CurveValues) → Refusing o → Reads noCurve o (flat_curve o).told (curve_values (flat_curve o))
+pub curve_reads : (o : Outcome Participation) → Refusing o → Reads noCurve o (flat_curve o).told (curve_values (flat_curve o))
 curve_reads = reads noCurve
 
 -- ranks and first scores have no values

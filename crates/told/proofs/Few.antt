@@ -9,8 +9,10 @@ use Rattle.paper.specs.Limits.{most_students, most_tallied}
 use Rattle.paper.specs.Rulings.{Outcome, accepted, refused, values_or, Rule, judged}
 use Rattle.paper.proofs.Ruled.{all_unbroken, given-values}
 use Rattle.placements.specs.Placing.{remainder}
-use Rattle.placements.specs.Promise.{said, size_rules, lent_rules, cohort_rules, Promise, Lent, TogetherPromise}
-use Rattle.placements.specs.declared.Answer.{Answer}
+use Rattle.std.proofs.Common.{Result}
+use Rattle.paper.specs.Promises.{said}
+use Rattle.paper.specs.declared.refusal.Refusal.{Refusal}
+use Rattle.placements.specs.Promise.{size_rules, lent_rules, cohort_rules, Promise, Lent, TogetherPromise}
 use Rattle.printed.proofs.Few.{remainder-within}
 
 -- of what the rules of either entry permit to be said, at most as many as its limit
@@ -27,10 +29,10 @@ few limit aggregates table Y bands more (accepted n) e =
     )
 
 -- so of every answer that the promises permit
-pub direct_few : (aggregates table : List ℕ) (Y : ℕ) (before : List ℕ) {r : Answer} {after : List ℕ} → Promise aggregates table Y before r after → values_or 0 (said r) ≤ most_students
+pub direct_few : (aggregates table : List ℕ) (Y : ℕ) (before : List ℕ) {r : Result ℕ Refusal} {after : List ℕ} → Promise aggregates table Y before r after → values_or 0 (said r) ≤ most_students
 direct_few aggregates table Y before {r = r} p = few most_students aggregates table Y (length before) (cohort_rules aggregates table Y) (said r) p.says
 
-pub together-few : (aggregates table : List ℕ) (Y : ℕ) (before : Lent) {r : Answer} {after : Lent} → TogetherPromise aggregates table Y before r after → values_or 0 (said r) ≤ most_tallied
+pub together-few : (aggregates table : List ℕ) (Y : ℕ) (before : Lent) {r : Result ℕ Refusal} {after : Lent} → TogetherPromise aggregates table Y before r after → values_or 0 (said r) ≤ most_tallied
 together-few aggregates table Y before {r = r} p =
     let lents = lent_rules (length aggregates) (length before.ranks) (length before.percentiles) (length before.counts) in
     few most_tallied aggregates table Y (length before.bands) (lents ++ cohort_rules aggregates table Y) (said r) p.says

@@ -1,9 +1,9 @@
 -- What C gets of bands.
-use Rattle.std.specs.Prelude.{ℕ, List}
+use Rattle.std.specs.Prelude.{ℕ, List, Result}
 use Rattle.paper.specs.Rulings.{Outcome, values_or}
-use Rattle.paper.specs.Promises.{Called}
-use Rattle.placements.specs.Promise.{said, Promise, Lent, TogetherPromise}
-use Rattle.placements.specs.declared.Answer.{Answer}
+use Rattle.paper.specs.Promises.{said, Called}
+use Rattle.paper.specs.declared.refusal.Refusal.{Refusal}
+use Rattle.placements.specs.Promise.{Promise, Lent, TogetherPromise}
 use Rattle.told.specs.Telling.{told}
 use Rattle.told.specs.declared.placing.Placed.{Placed}
 
@@ -11,7 +11,7 @@ use Rattle.told.specs.declared.placing.Placed.{Placed}
 abbrev pub flat_placed : Outcome ℕ → Placed
 flat_placed o = record { told = told o; remainder = values_or 0 o }
 
-abbrev pub form : Answer → Placed
+abbrev pub form : Result ℕ Refusal → Placed
 form r = flat_placed (said r)
 
 -- aggregates, table, Y, the bands before, the struct, the bands after: those of an answer that the promise permits

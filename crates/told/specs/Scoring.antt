@@ -1,14 +1,9 @@
 -- What C gets of first scores.
 use Rattle.std.specs.Prelude.{ℕ, List}
 use Rattle.paper.specs.Promises.{Called}
-use Rattle.firsts.specs.Promise.{said, Promise}
-use Rattle.firsts.specs.declared.Answer.{Answer}
-use Rattle.told.specs.Telling.{told}
+use Rattle.firsts.specs.Promise.{Promise}
+use Rattle.told.specs.Telling.{form}
 use Rattle.told.specs.declared.telling.Told.{Told}
-
--- what is told
-abbrev pub form : Answer → Told
-form r = told (said r)
 
 -- kind, subject, counts, the table before, the struct, the table after: those of an answer that the promise of first scores permits
 abbrev pub ScoresCalled : ℕ → ℕ → List ℕ → List ℕ → Told → List ℕ → Type 0

@@ -1,6 +1,8 @@
 -- What C is told of an outcome, whatever was asked, and how C reads it.
-use Rattle.std.specs.Prelude.{◌≤◌, ◌≡◌}
+use Rattle.std.specs.Prelude.{◌≤◌, ◌≡◌, Result}
 use Rattle.paper.specs.Rulings.{Fault, number_of, place_of, Outcome, accepted, refused}
+use Rattle.paper.specs.Promises.{said}
+use Rattle.paper.specs.declared.refusal.Refusal.{Refusal}
 use Rattle.told.specs.declared.telling.Told.{Told}
 
 -- accepted: refusal and place are 0
@@ -14,6 +16,10 @@ wrong f = record { refusal = number_of f; place = place_of f }
 abbrev pub told : {A : Type 0} → Outcome A → Told
 told (accepted v) = nothing_wrong
 told (refused f) = wrong f
+
+-- where there are no values, that is all that C gets
+abbrev pub form : Result (Unit {0}) Refusal → Told
+form r = told (said r)
 
 -- how C reads what it is told and the values. Accepted: nothing is wrong, and the values are given
 pub record Given {A : Type 0} (v : A) (t : Told) (values : A) : Type 0 where

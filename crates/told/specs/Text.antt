@@ -1,9 +1,9 @@
 -- What C gets of a file's listing.
-use Rattle.std.specs.Prelude.{ℕ, List}
+use Rattle.std.specs.Prelude.{ℕ, List, Result}
 use Rattle.paper.specs.Rulings.{Outcome, values_or}
-use Rattle.paper.specs.Promises.{Called}
-use Rattle.printed.specs.Promise.{said, Promise}
-use Rattle.printed.specs.declared.Answer.{Answer}
+use Rattle.paper.specs.Promises.{said, Called}
+use Rattle.paper.specs.declared.refusal.Refusal.{Refusal}
+use Rattle.printed.specs.Promise.{Promise}
 use Rattle.told.specs.Telling.{told}
 use Rattle.told.specs.declared.text.Text.{Text}
 
@@ -11,7 +11,7 @@ use Rattle.told.specs.declared.text.Text.{Text}
 abbrev pub flat_text : Outcome ℕ → Text
 flat_text o = record { told = told o; length = values_or 0 o }
 
-abbrev pub form : Answer → Text
+abbrev pub form : Result ℕ Refusal → Text
 form r = flat_text (said r)
 
 -- the file, the text before, the struct, the text after: those of an answer that the report's promise permits

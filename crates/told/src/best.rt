@@ -2,8 +2,9 @@
 ghost use Rattle.std.specs.Prelude.{◌≡◌};
 ghost use Rattle.told.specs.Best.{form};
 
-use crate::telling::{Told, nothing_wrong, tell};
-use sets::Answer;
+use crate::telling::{Told, told};
+use paper::refusal::Refusal;
+use sets::BestSet;
 
 // Refused: aggregate and set are 0. Laid out as the header's flat shtegomir_best.
 #[repr(C)]
@@ -14,25 +15,20 @@ pub struct Best {
     pub set: u16,
 }
 
-pub fn flatten(answer: Answer) -> Best
-    ensures { result ≡ form answer }
-{
-    match answer {
-        Answer::Accepted { aggregate, set } => {
-            let told = nothing_wrong();
-            Best {
-                told,
-                aggregate,
-                set,
-            }
-        }
-        Answer::Refused(x) => {
-            let told = tell(x);
-            Best {
-                told,
-                aggregate: 0,
-                set: 0,
-            }
+const NO_VALUES: BestSet = BestSet {
+    aggregate: 0,
+    set: 0,
+};
+
+impl From<Result<BestSet, Refusal>> for Best {
+    ghost from_gives = { λ answer given. given ≡ form answer };
+
+    fn from(answer: Result<BestSet, Refusal>) -> Best {
+        let BestSet { aggregate, set } = answer.unwrap_or(NO_VALUES);
+        Best {
+            told: told(answer),
+            aggregate,
+            set,
         }
     }
 }

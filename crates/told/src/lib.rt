@@ -4,7 +4,5 @@
 pub mod best;
 pub mod participation;
 pub mod placing;
-pub mod ranking;
-pub mod scoring;
 pub mod telling;
 pub mod text;

@@ -2,8 +2,9 @@
 ghost use Rattle.std.specs.Prelude.{◌≡◌};
 ghost use Rattle.told.specs.Participation.{form};
 
-use crate::telling::{Told, nothing_wrong, tell};
-use curve::Answer;
+use crate::telling::{Told, told};
+use curve::Participation;
+use paper::refusal::Refusal;
 
 // Refused: population and rate are 0. Laid out as the header's flat shtegomir_curve.
 #[repr(C)]
@@ -14,25 +15,20 @@ pub struct Curve {
     pub rate: u32,
 }
 
-pub fn flatten(answer: Answer) -> Curve
-    ensures { result ≡ form answer }
-{
-    match answer {
-        Answer::Accepted { population, rate } => {
-            let told = nothing_wrong();
-            Curve {
-                told,
-                population,
-                rate,
-            }
-        }
-        Answer::Refused(x) => {
-            let told = tell(x);
-            Curve {
-                told,
-                population: 0,
-                rate: 0,
-            }
+const NO_VALUES: Participation = Participation {
+    population: 0,
+    rate: 0,
+};
+
+impl From<Result<Participation, Refusal>> for Curve {
+    ghost from_gives = { λ answer given. given ≡ form answer };
+
+    fn from(answer: Result<Participation, Refusal>) -> Curve {
+        let Participation { population, rate } = answer.unwrap_or(NO_VALUES);
+        Curve {
+            told: told(answer),
+            population,
+            rate,
         }
     }
 }

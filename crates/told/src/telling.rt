@@ -1,7 +1,7 @@
 // What every entry tells C first: the refusal and its place.
 ghost use Rattle.std.specs.Prelude.{◌≡◌};
-ghost use Rattle.paper.specs.Refusals.{fault};
-ghost use Rattle.told.specs.Telling.{nothing_wrong, wrong};
+ghost use Rattle.paper.specs.Promises.{said};
+ghost use Rattle.told.specs.Telling.{told, form};
 
 use paper::refusal;
 use paper::refusal::Refusal;
@@ -15,20 +15,27 @@ pub struct Told {
     pub place: u64,
 }
 
-pub(crate) fn nothing_wrong() -> Told
-    ensures { result ≡ nothing_wrong }
+// Of any answer, whatever its values.
+pub(crate) fn told<T: Copy>(answer: Result<T, Refusal>) -> Told
+    ensures { result ≡ told (said answer) }
 {
-    Told {
-        refusal: 0,
-        place: 0,
+    match answer {
+        Ok(_) => Told {
+            refusal: 0,
+            place: 0,
+        },
+        Err(x) => Told {
+            refusal: u64::from(refusal::number(x)),
+            place: refusal::place(x) as u64,
+        },
     }
 }
 
-pub(crate) fn tell(x: Refusal) -> Told
-    ensures { result ≡ wrong (fault x) }
-{
-    Told {
-        refusal: refusal::number(x) as u64,
-        place: refusal::place(x) as u64,
+// Ranks and first scores have no values: the header's shtegomir_ranked and shtegomir_scored are refusal and place alone.
+impl From<Result<(), Refusal>> for Told {
+    ghost from_gives = { λ answer given. given ≡ form answer };
+
+    fn from(answer: Result<(), Refusal>) -> Told {
+        told(answer)
     }
 }

@@ -2,8 +2,8 @@
 ghost use Rattle.std.specs.Prelude.{◌≡◌};
 ghost use Rattle.told.specs.Text.{form};
 
-use crate::telling::{Told, nothing_wrong, tell};
-use printed::Answer;
+use crate::telling::{Told, told};
+use paper::refusal::Refusal;
 
 // Refused: the length is 0. Laid out as the header's flat shtegomir_text.
 #[repr(C)]
@@ -13,20 +13,13 @@ pub struct Text {
     pub length: u64,
 }
 
-pub fn flatten(answer: Answer) -> Text
-    ensures { result ≡ form answer }
-{
-    match answer {
-        Answer::Accepted { length } => {
-            let told = nothing_wrong();
-            Text {
-                told,
-                length: length as u64,
-            }
-        }
-        Answer::Refused(x) => {
-            let told = tell(x);
-            Text { told, length: 0 }
+impl From<Result<usize, Refusal>> for Text {
+    ghost from_gives = { λ answer given. given ≡ form answer };
+
+    fn from(answer: Result<usize, Refusal>) -> Text {
+        Text {
+            told: told(answer),
+            length: answer.unwrap_or(0) as u64,
         }
     }
 }

@@ -21,23 +21,24 @@ use Rattle.results.specs.Results.{Student}
 use Rattle.results.specs.Scoring.{score_found, score}
 use Rattle.results.specs.Counting.{usable, usable_at, shows_english, kept}
 use Rattle.sets.specs.Rules.{wrong, unscored, repeated}
-use Rattle.sets.specs.Promise.{aggregate_of, Values as Best}
-use Rattle.sets.specs.declared.Answer.{Answer as BestAnswer}
+use Rattle.paper.specs.Promises.{said}
+use Rattle.paper.specs.declared.refusal.Refusal.{Refusal}
+use Rattle.sets.specs.Promise.{aggregate_of}
+use Rattle.sets.specs.declared.BestSet.{BestSet}
 use Rattle.sets.specs.Computed.{admissible, earlier, chosen, computed}
 use Rattle.sets.proofs.Meeting.{said-only}
 use Rattle.ranks.specs.Ranking.{ranks_of}
 use Rattle.curve.specs.Population.{S, E}
 use Rattle.curve.specs.Curve.{lower, upper, entry, table_of}
-use Rattle.curve.specs.Promise.{Values, said as saidCurve, population_ruling}
-use Rattle.curve.specs.declared.Answer.{Answer as CurveAnswer}
+use Rattle.curve.specs.Promise.{population_ruling}
+use Rattle.curve.specs.declared.Participation.{Participation}
 use Rattle.curve.proofs.Promised.{table-ruled}
 use Rattle.tally.specs.Places.{places, band_up_to}
 use Rattle.tally.specs.Examples.{full}
 use Rattle.tally.proofs.Reaching.{none-fit}
-use Rattle.placements.specs.declared.Answer.{Answer as BandsAnswer}
 use Rattle.placements.specs.Placing.{remainder}
 use Rattle.placements.specs.Bands.{bands_of}
-use Rattle.placements.specs.Promise.{direct_rules, together_rules, Lent, TogetherPromise, said as saidBands}
+use Rattle.placements.specs.Promise.{direct_rules, together_rules, Lent, TogetherPromise}
 use Rattle.placements.specs.Given.{LentFor}
 use Rattle.placements.proofs.ByHand.{full-within}
 use Rattle.placements.proofs.Promised.{tells, owes, together-owes}
@@ -60,7 +61,7 @@ Computes (cohort ss by scores and table of Y have xs rank ranks get atars leavin
     (aggregates_in ss scores ≡ xs) × (length ss ≡ length xs) × Unbroken (direct_rules xs table Y (length xs)) × (remainder xs table Y ≡ n) × (ranks_of xs ≡ ranks) × (map atar_of (bands_of xs table Y) ≡ atars)
 
 -- Y and r, by either entry
-rated : (q : List ℕ) (o : Outcome Values) (r : CurveAnswer) → population_ruling q ≡ o → Rated q r → saidCurve r ≡ o
+rated : (q : List ℕ) (o : Outcome Participation) (r : Result Participation Refusal) → population_ruling q ≡ o → Rated q r → said r ≡ o
 rated q o r c (alone h) = h.says ∙ c
 rated q o r c (with_table before after l h) = h.says ∙ table-ruled q before l ∙ c
 
@@ -72,25 +73,25 @@ taken xs table Y before l k =
     (le-ltb most_tallied (length xs) (omega (arith, ltb-false most_students (length xs) k.0)), (k.1.0, (refl, (refl, (refl, (refl, k.1.1.1))))))
 
 -- bands and remainder, by either entry
-placed : (xs table : List ℕ) (Y : ℕ) (atars : List ℕ) (n : ℕ) (r : BandsAnswer) (bands : List ℕ) → Computes (aggregates xs by table of Y get atars leaving n)
-    → Placed xs table Y r bands → (saidBands r ≡ accepted n) × (map atar_of bands ≡ atars)
+placed : (xs table : List ℕ) (Y : ℕ) (atars : List ℕ) (n : ℕ) (r : Result ℕ Refusal) (bands : List ℕ) → Computes (aggregates xs by table of Y get atars leaving n)
+    → Placed xs table Y r bands → (said r ≡ accepted n) × (map atar_of bands ≡ atars)
 placed xs table Y atars n r bands c (directly before l h) =
     let e = unbroken_all (direct_rules xs table Y (length before)) (remainder xs table Y) (rw l c.0) in
     let o = only-as tells rules_is (owes xs table Y before) (e ∙ ap accepted c.1) h in
-    (ap saidBands o.0, ap (map atar_of) o.1 ∙ c.2)
+    (ap said o.0, ap (map atar_of) o.1 ∙ c.2)
 placed xs table Y atars n r bands c (ranked before ranks percentiles counts l h) =
     let rules = together_rules xs table Y (length before.ranks) (length before.percentiles) (length before.bands) (length before.counts) in
     let e = unbroken_all rules (remainder xs table Y) (taken xs table Y before l c.0) in
     let o = only-as tells rules_is (together-owes xs table Y before) (e ∙ ap accepted c.1) h in
-    (ap saidBands o.0, ap (λ (b : Lent). map atar_of b.bands) o.1 ∙ c.2)
+    (ap said o.0, ap (λ (b : Lent). map atar_of b.bands) o.1 ∙ c.2)
 
 -- the aggregates of promised answers are those that are computed
-answered : (ss : List Student) (scores : List ℕ) (rs : List BestAnswer) → Answers ss scores rs → map aggregate_in rs ≡ aggregates_in ss scores
+answered : (ss : List Student) (scores : List ℕ) (rs : List (Result BestSet Refusal)) → Answers ss scores rs → map aggregate_in rs ≡ aggregates_in ss scores
 answered [] scores [] h = refl
 answered [] scores (r ∷ rs) h = absurd h
 answered (s ∷ ss) scores [] h = absurd h
 answered (s ∷ ss) scores (r ∷ rs) h =
-    ap₂ (λ (x : ℕ) (xs : List ℕ). x ∷ xs) (ap (λ (o : Outcome Best). (values_or (record { aggregate = 0; set = 0 }) o).aggregate) (said-only s scores h.0))
+    ap₂ (λ (x : ℕ) (xs : List ℕ). x ∷ xs) (ap (λ (o : Outcome BestSet). (values_or (record { aggregate = 0; set = 0 }) o).aggregate) (said-only s scores h.0))
     (answered ss scores rs h.1)
 
 -- ranks and bands of students, in one call
@@ -102,7 +103,7 @@ stand ss scores table Y xs ranks atars n c rs h r before after l p =
     let rules = together_rules xs table Y (length before.ranks) (length before.percentiles) (length before.bands) (length before.counts) in
     let u = unbroken_all rules (remainder xs table Y) (taken xs table Y before k c.2) in
     let o = only-as tells rules_is (together-owes xs table Y before) (u ∙ ap accepted c.3) (subst (λ (ys : List ℕ). TogetherPromise ys table Y before r after) e p) in
-    (e, ap saidBands o.0, ap (λ (b : Lent). b.ranks) o.1 ∙ c.4, ap (λ (b : Lent). map atar_of b.bands) o.1 ∙ c.5)
+    (e, ap said o.0, ap (λ (b : Lent). b.ranks) o.1 ∙ c.4, ap (λ (b : Lent). map atar_of b.bands) o.1 ∙ c.5)
 
 -- what computes so is promised so
 holds : (e : Example) → Computes e → Holds e

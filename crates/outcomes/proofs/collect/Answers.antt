@@ -1,7 +1,7 @@
 use Rattle.outcomes.proofs.Collecting.{Gathered, gathered_none, gathered_all, gathered_more, after-most, joined-long}
 use Rattle.outcomes.proofs.Bounded.{place_short}
 use Rattle.outcomes.specs.Inner.{outcome_at}
-use Rattle.sets.specs.Promise.{said}
+use Rattle.paper.specs.Promises.{said}
 use Rattle.paper.specs.Rulings.{place_in}
 use Rattle.paper.specs.Limits.{result_bytes, most_results}
 use lib.Seq.{get_or-set_other}
