@@ -1,13 +1,10 @@
 use Rattle.curve.specs.Population.{Eof}
-use Rattle.paper.specs.Limits.{ages, most_figure}
+use Rattle.paper.specs.Limits.{most_figure}
 use Rattle.paper.specs.Lists.{sum}
-use Prim.Native.Nat.{◌*◌, ◌-◌, ◌≤◌}
+use Prim.Native.Nat.{◌*◌, ◌≤◌}
 use mathlib.Core.Path.{◌≡◌}
 use Rattle.curve.proofs.figures.eligible.Given as goal
 
 -- the sum has E of the ages passed, each at most the greatest figure
 abbrev pub invariant-loop-age : goal.invariant-loop-age
-invariant-loop-age l = (l.age ≤ ages) × (l.s ≡ sum l.age (λ i. Eof l.figures i)) × (l.s ≤ most_figure * l.age)
-
-abbrev pub decreases-loop-age : goal.decreases-loop-age
-decreases-loop-age l = ages - l.age
+invariant-loop-age l = (l.s ≡ sum l.age (λ i. Eof l.figures i)) × (l.s ≤ most_figure * l.age)
