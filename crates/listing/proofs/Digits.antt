@@ -1,14 +1,15 @@
 -- The digits of a number: one, or those of its tenth and the last.
-use Prim.Native.Nat.{ℕ, zero, suc, ◌-◌, ◌*◌, ◌/◌, ◌^◌, ◌≤◌, ◌<◌}
+use Prim.Native.Nat.{ℕ, zero, suc, ◌-◌, ◌+◌, ◌/◌, ◌%◌, ◌^◌, ◌≤◌, ◌<◌}
 use native.Mathlib.Omega.{arith}
 use native.Mathlib.Decide.{dec_lt}
-use native.Mathlib.Nat.{pow-suc}
 use native.Mathlib.Numerals.{sub-one}
 use mathlib.Core.Path.{◌≡◌, refl, sym, ap, ◌∙◌}
 use mathlib.Core.List.{List, [], ◌∷◌, ◌++◌}
-use lib.ListN.{length, length-append}
+use lib.ListN.{length}
+use Rattle.std.specs.Fmt.{decimal}
+use Rattle.std.proofs.lemmas.Fmt.{decimal_digit, decimal_step, length-decimal-le}
 use borrow.Author.Tests.{lt-ltb, le-ltb}
-use Rattle.listing.specs.Text.{digit, digits_in, digits}
+use Rattle.listing.specs.Text.{zero_digit, digit, digits_in, digits}
 
 -- what holds of the numbers below ten, and of a number if of its tenth, holds of all
 module _ (P : ℕ → Type 0) (one : (n : ℕ) → n < 10 → P n) (more : (n : ℕ) → 10 ≤ n → P (n / 10) → P n) where
@@ -48,15 +49,19 @@ pub more_digits : (n : ℕ) → 10 ≤ n → digits n ≡ digits (n / 10) ++ (di
 unfolding digits
 more_digits n h = more_in n n h (omega arith) ∙ ap (λ (l : List ℕ). l ++ (digit n ∷ [])) (enough (n / 10) (n - 1) (n / 10) (omega arith) (omega arith))
 
+-- a number's last digit, as a number, has that digit alone
+pub last-digit : (n : ℕ) → digits (n % 10) ≡ digit n ∷ []
+last-digit n =
+    let e : n % 10 % 10 ≡ n % 10 = omega arith in
+    one-digit (n % 10) (omega arith) ∙ ap (λ (k : ℕ). (zero_digit + k) ∷ []) e
+
+-- the digits are what the library prints
+pub printed : (n : ℕ) → n < 18446744073709551616 → decimal n ≡ digits n
+printed =
+    by_tenths (λ n. n < 18446744073709551616 → decimal n ≡ digits n)
+    (λ n h l. let e : n ≡ n % 10 = omega arith in decimal_digit n h ∙ ap (λ (k : ℕ). (zero_digit + k) ∷ []) e ∙ sym (one-digit n h))
+    (λ n h f l. decimal_step n h l ∙ ap (λ (t : List ℕ). t ++ (digit n ∷ [])) (f (omega arith)) ∙ sym (more_digits n h))
+
 -- a number below a power of ten has no more digits than the power
-pub few-digits : (n k : ℕ) → n < 10 ^ suc k → length (digits n) ≤ suc k
-few-digits =
-    by_tenths (λ n. (k : ℕ) → n < 10 ^ suc k → length (digits n) ≤ suc k)
-    (λ n h k l. rw (one-digit n h) (omega arith))
-    fewer
-  where
-    fewer : (n : ℕ) → 10 ≤ n → ((k : ℕ) → n / 10 < 10 ^ suc k → length (digits (n / 10)) ≤ suc k) → (k : ℕ) → n < 10 ^ suc k → length (digits n) ≤ suc k
-    fewer n h f zero l = absurd (omega arith)
-    fewer n h f (suc k) l =
-        let m : n < 10 ^ suc k * 10 = rw (pow-suc 10 (suc k)) at l in
-        rw (more_digits n h) (simp length-append (omega (arith, f k (omega arith))))
+pub few-digits : (n k : ℕ) → 0 < k → n < 10 ^ k → n < 18446744073709551616 → length (digits n) ≤ k
+few-digits n k s h l = rw (← printed n l) (length-decimal-le k n s h l)

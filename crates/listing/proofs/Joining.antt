@@ -1,75 +1,35 @@
 -- Lines of texts, and text added to them.
-use Prim.Native.Nat.{ℕ, zero, suc, ◌+◌, ◌-◌, ◌≤◌, ◌<◌, min}
+use Prim.Native.Nat.{ℕ, ◌≤◌}
 use native.Mathlib.Omega.{arith}
-use native.Mathlib.Numerals.{unary_clauses}
-use mathlib.Core.Path.{◌≡◌, refl, sym, ap, ◌∙◌}
-use mathlib.Core.List.{List, [], ◌∷◌, ◌++◌, append_assoc}
-use lib.ListN.{length, set, replicate, length-append, take-append-drop}
-use lib.Seq.{take-append_seam, drop-append_seam}
-use Rattle.listing.specs.Inner.{padded, line_of, Adds}
-use Rattle.listing.specs.Lines.{line_bytes, Shows}
+use mathlib.Core.Path.{◌≡◌, refl, sym, ap, subst, ◌∙◌}
+use mathlib.Core.List.{List, [], ◌++◌, append_assoc}
+use lib.ListN.{length, length-append}
+use Rattle.listing.specs.Inner.{Adds}
+use Rattle.listing.specs.Lines.{line_bytes, shown, Shows}
 use Rattle.listing.specs.declared.writing.Line.{Line}
-
--- a byte more where there is room, and none where there is not
-more_padded : (n : ℕ) (text : List ℕ) (byte : ℕ) → length text < n → set (padded n text) (length text) byte ≡ padded n (text ++ (byte ∷ []))
-unfolding padded
-more_padded zero text byte h = absurd (omega arith)
-more_padded (suc n) [] byte h = refl
-more_padded (suc n) (x ∷ text) byte h = ap (λ (l : List ℕ). x ∷ l) (more_padded n text byte (omega arith))
-
-full-padded : (n : ℕ) (text more : List ℕ) → n ≤ length text → padded n text ≡ padded n (text ++ more)
-unfolding padded
-full-padded zero text more h = refl
-full-padded (suc n) [] more h = absurd (omega arith)
-full-padded (suc n) (x ∷ text) more h = ap (λ (l : List ℕ). x ∷ l) (full-padded n text more (omega arith))
-
-zeros-padded : (n : ℕ) → padded n [] ≡ replicate n 0
-unfolding padded
-zeros-padded zero = refl
-zeros-padded (suc n) = ap (λ (l : List ℕ). 0 ∷ l) (zeros-padded n)
-
-text_padded : (n : ℕ) (text : List ℕ) → length text ≤ n → padded n text ≡ text ++ replicate (n - length text) 0
-unfolding padded
-text_padded n [] h = simp unary_clauses (zeros-padded n)
-text_padded zero (x ∷ text) h = absurd (omega arith)
-text_padded (suc n) (x ∷ text) h = simp unary_clauses (ap (λ (l : List ℕ). x ∷ l) (text_padded n text (omega arith)))
-
-abbrev made : List ℕ → ℕ → Line
-made bytes long = record { bytes = bytes; length = long }
-
-pub with_byte : (text : List ℕ) (byte : ℕ) → min line_bytes (length text) < line_bytes → made (set (padded line_bytes text) (min line_bytes (length text)) byte) (min line_bytes (length text) + 1) ≡ line_of (text ++ (byte ∷ []))
-with_byte text byte h =
-    let s : min line_bytes (length text) ≡ length text = omega arith in
-    let l : min line_bytes (length (text ++ (byte ∷ []))) ≡ length text + 1 = simp length-append (omega arith) in
-    rw (s, more_padded line_bytes text byte (omega arith), l) refl
-
-pub full-line : (text more : List ℕ) → line_bytes ≤ min line_bytes (length text) → line_of text ≡ line_of (text ++ more)
-full-line text more h =
-    let l : min line_bytes (length (text ++ more)) ≡ min line_bytes (length text) = simp length-append (omega arith) in
-    rw (full-padded line_bytes text more (omega arith), l) refl
 
 infixr 5 ◌then◌
 -- one text after another
 pub ◌then◌ : {a b c : Line} {first second : List ℕ} → Adds a b first → Adds b c second → Adds a c (first ++ second)
-(◌then◌) {first = first} {second = second} f g = record { added = λ text e. rw (← append_assoc text first second) (g.added (text ++ first) (f.added text e)) }
-
--- the line of a text that fits shows it
-pub shows : (text : List ℕ) → length text ≤ line_bytes → Shows (line_of text) text
-shows text h =
-    let s : min line_bytes (length text) ≡ length text = omega arith in
+(◌then◌) {a = a} {first = first} {second = second} f g =
     record {
-      fits = h;
-      same = rw (s, text_padded line_bytes text h) (take-append_seam text (replicate (line_bytes - length text) 0));
-      long = s;
-      rest = rw (s, text_padded line_bytes text h) (drop-append_seam text (replicate (line_bytes - length text) 0));
+      added = λ h.
+          let whole : length ((shown a ++ first) ++ second) ≤ line_bytes = rw (append_assoc (shown a) first second) h in
+          let one = f.added (simp length-append (omega (arith, simp length-append at h))) in
+          rw (← append_assoc (shown a) first second, ← one) (g.added (rw one whole));
     }
 
-pub written : {a b : Line} {text : List ℕ} → length text ≤ line_bytes → a ≡ line_of [] → Adds a b text → Shows b text
-written {text = text} h e f = rw (f.added [] e) (shows text h)
+-- what is added to an empty line, if it fits, is what the line shows
+pub written : {a b : Line} {text : List ℕ} → length text ≤ line_bytes → shown a ≡ [] → Adds a b text → Shows b text
+written {text = text} h e f = record { fits = h; same = f.added (subst (λ (t : List ℕ). length (t ++ text) ≤ line_bytes) (sym e) h) ∙ ap (λ (t : List ℕ). t ++ text) e }
+
+-- the line that shows a text
+abbrev pub line_of : List ℕ → Line
+line_of text = record { bytes = record { items = text } }
+
+pub shows : (text : List ℕ) → length text ≤ line_bytes → Shows (line_of text) text
+shows text h = record { fits = h; same = refl }
 
 -- two lines that show one text are equal
-bytes_of : {line : Line} {text : List ℕ} → Shows line text → line.bytes ≡ text ++ replicate (line_bytes - length text) 0
-bytes_of {line} p = sym (take-append-drop line.length line.bytes) ∙ rw (p.same, p.rest) refl
-
 pub determined : {a b : Line} {text : List ℕ} → Shows a text → Shows b text → a ≡ b
-determined p q = rw (bytes_of p, bytes_of q, p.long, q.long) refl
+determined p q = ap line_of (p.same ∙ sym q.same)

@@ -15,40 +15,40 @@ pub mod writing;
 pub fn cohort_line(students: u32, eligible: u32, remainder: u32) -> Line
     ensures { Shows result (cohort_line students eligible remainder) }
 {
-    Line::empty()
+    Line::new()
         .text(b"cohort ")
-        .number(students as u64)
+        .number(u64::from(students))
         .text(b" eligible ")
-        .number(eligible as u64)
+        .number(u64::from(eligible))
         .text(b" remainder ")
-        .number(remainder as u64)
-        .byte(b'\n')
+        .number(u64::from(remainder))
+        .text(b"\n")
 }
 
 // A student with an aggregate: in hundredths, the percentile in thousandths.
 pub fn student_line(id: u32, aggregate: u32, rank: u32, percentile: u32, band: u16) -> Line
     ensures { Shows result (student_line id aggregate rank percentile band) }
 {
-    Line::empty()
-        .number(id as u64)
-        .byte(b' ')
-        .hundredths(aggregate as u64)
-        .byte(b' ')
-        .number(rank as u64)
-        .byte(b' ')
-        .thousandths(percentile as u64)
-        .byte(b' ')
+    Line::new()
+        .number(u64::from(id))
+        .text(b" ")
+        .hundredths(u64::from(aggregate))
+        .text(b" ")
+        .number(u64::from(rank))
+        .text(b" ")
+        .thousandths(u64::from(percentile))
+        .text(b" ")
         .atar(band)
-        .byte(b'\n')
+        .text(b"\n")
 }
 
 // A refused student, by the number and the place of the refusal.
 pub fn refused_line(id: u32, number: u8, place: usize) -> Line
     ensures { Shows result (refused_line id number place) }
 {
-    Line::empty()
-        .number(id as u64)
-        .byte(b' ')
+    Line::new()
+        .number(u64::from(id))
+        .text(b" ")
         .refusal(number, place)
 }
 
@@ -56,5 +56,5 @@ pub fn refused_line(id: u32, number: u8, place: usize) -> Line
 pub fn file_line(refusal: Refusal) -> Line
     ensures { Shows result (file_line (number_of (fault refusal)) (place_of (fault refusal))) }
 {
-    Line::empty().refusal(refusal::number(refusal), refusal::place(refusal))
+    Line::new().refusal(refusal::number(refusal), refusal::place(refusal))
 }

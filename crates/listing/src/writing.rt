@@ -1,72 +1,59 @@
-// A line, and what is written at its end. A line that is full stays as it is.
+// A line, and what is written at its end. What a line has no room for is left out.
 ghost use Rattle.std.specs.Prelude.{◌≡◌, [], ◌∷◌, ◌≤◌, length};
 ghost use Rattle.listing.specs.Text.{digit, digits, decimals2, decimals3, atar};
-ghost use Rattle.listing.specs.Lines.{file_line};
-ghost use Rattle.listing.specs.Inner.{line_of, Adds, ending_bytes};
+ghost use Rattle.listing.specs.Lines.{file_line, shown};
+ghost use Rattle.listing.specs.Inner.{Adds, ending_bytes};
 
+use arrayvec::ArrayVec;
 use paper::limits::BAND_STEP;
 use paper::units::{HUNDREDTHS, THOUSANDTHS};
 
 // The bytes that a line has room for.
 pub const LINE_BYTES: usize = 64;
 
-// The bytes of the text, then zeros.
-#[derive(Clone, Copy)]
+#[derive(Drop)]
 pub struct Line {
-    pub bytes: [u8; LINE_BYTES],
-    pub length: usize,
+    bytes: ArrayVec<u8, LINE_BYTES>,
 }
 
 // The highest band whose ATAR is not told as a number.
 const LOW_BAND: u16 = 600;
 
+// Parts, and no `write!`: that answers a Result, no clause says when it is Ok, and a line is made whatever comes.
 impl Line {
-    pub(crate) fn empty() -> Line
-        ensures { result ≡ line_of [] }
+    pub(crate) fn new() -> Line
+        ensures { shown result ≡ [] }
     {
         Line {
-            bytes: [0; LINE_BYTES],
-            length: 0,
+            bytes: ArrayVec::new(),
         }
     }
 
-    pub(crate) fn byte(mut self, byte: u8) -> Line
-        ensures { Adds self result (byte ∷ []) }
+    // What the line shows.
+    pub fn as_bytes(&self) -> &[u8]
+        ensures { result.now ≡ shown self.now }
     {
-        let at = self.length;
-        if at < LINE_BYTES {
-            self.bytes[at] = byte;
-            self.length = at + 1;
-        }
+        self.bytes.as_slice()
+    }
+
+    pub(crate) fn text(mut self, text: &[u8]) -> Line
+        ensures { Adds self result text.now }
+    {
+        let _ = self.bytes.try_extend_from_slice(text);
         self
     }
 
-    pub(crate) fn text(self, text: &[u8]) -> Line
-        ensures { Adds self result text.now }
+    pub(crate) fn number(self, n: u64) -> Line
+        ensures { Adds self result (digits n) }
     {
-        let mut line = self;
-        let mut i = 0;
-        while i < text.len() {
-            line = line.byte(text[i]);
-            i += 1;
-        }
-        line
+        self.text(itoa::Buffer::new().format(n).as_bytes())
     }
 
     // The last digit of a number.
     fn digit(self, n: u64) -> Line
         ensures { Adds self result (digit n ∷ []) }
     {
-        self.byte(b'0' + (n % 10) as u8)
-    }
-
-    pub(crate) fn number(self, n: u64) -> Line
-        ensures { Adds self result (digits n) }
-    {
-        if n < 10 {
-            return self.digit(n);
-        }
-        self.number(n / 10).digit(n)
+        self.number(n % 10)
     }
 
     // Two decimals of a number of hundredths.
@@ -74,7 +61,7 @@ impl Line {
         ensures { Adds self result (decimals2 n) }
     {
         self.number(n / HUNDREDTHS)
-            .byte(b'.')
+            .text(b".")
             .digit(n / 10)
             .digit(n)
     }
@@ -84,7 +71,7 @@ impl Line {
         ensures { Adds self result (decimals3 n) }
     {
         self.number(n / THOUSANDTHS)
-            .byte(b'.')
+            .text(b".")
             .digit(n / 100)
             .digit(n / 10)
             .digit(n)
@@ -97,7 +84,7 @@ impl Line {
         if band <= LOW_BAND {
             return self.text(b"30.00 or less");
         }
-        self.hundredths(BAND_STEP * band as u64)
+        self.hundredths(BAND_STEP * u64::from(band))
     }
 
     // How a line of a refusal ends.
@@ -105,9 +92,10 @@ impl Line {
         ensures { Adds self result (file_line number place) × (length (file_line number place) ≤ ending_bytes) }
     {
         self.text(b"refused ")
-            .number(number as u64)
-            .byte(b' ')
+            .number(u64::from(number))
+            .text(b" ")
+            // std converts no usize to u64 by From.
             .number(place as u64)
-            .byte(b'\n')
+            .text(b"\n")
     }
 }

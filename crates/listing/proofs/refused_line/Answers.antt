@@ -4,4 +4,4 @@ use Rattle.listing.proofs.refused_line.Goals as goal
 
 pub returns : goal.returns
 returns c =
-    written (refused-fits _ _ _ c.ranges.id.fits c.refusal.ensures.1) c.empty.ensures (c.number.ensures then c.byte.ensures then c.refusal.ensures.0)
+    written (refused-fits _ _ _ c.ranges.id.fits c.refusal.ensures.1) c.new.ensures (rw c.from.ensures at (c.number.ensures then c.text.ensures then c.refusal.ensures.0))

@@ -11,4 +11,4 @@ returns-then-band-le-LOW_BAND c =
 pub returns : goal.returns
 unfolding atar
 returns c =
-    rw (lt-ltb low_band c.args.band (omega arith), atar) c.hundredths.ensures
+    rw (lt-ltb low_band c.args.band (omega arith), atar) (rw c.from.ensures at c.hundredths.ensures)

@@ -4,4 +4,4 @@ use Rattle.listing.proofs.writing.Line.refusal.Goals as goal
 
 pub returns : goal.returns
 returns c =
-    (c.text.ensures then c.number.ensures then c.byte.ensures then c.number-2.ensures then c.byte-2.ensures, file-fits _ _ c.ranges.number.fits c.ranges.place.fits)
+    (rw c.from.ensures at (c.text.ensures then c.number.ensures then c.text-2.ensures then c.number-2.ensures then c.text-3.ensures), file-fits _ _ c.ranges.number.fits c.ranges.place.fits)
