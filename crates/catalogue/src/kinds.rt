@@ -52,36 +52,30 @@ pub const ADVANCED_DIPLOMA: u8 = 6;
 pub fn is_general(kind: u8) -> bool
     ensures { result ≡ is_general kind }
 {
-    match Kind::try_from(kind) {
-        Ok(Kind::General | Kind::Extension | Kind::ExternalExamination) => true,
-        _ => false,
-    }
+    matches!(
+        Kind::try_from(kind),
+        Ok(Kind::General | Kind::Extension | Kind::ExternalExamination)
+    )
 }
 
 pub fn is_applied(kind: u8) -> bool
     ensures { result ≡ is_applied kind }
 {
-    match Kind::try_from(kind) {
-        Ok(Kind::Applied) => true,
-        _ => false,
-    }
+    matches!(Kind::try_from(kind), Ok(Kind::Applied))
 }
 
 pub fn is_vet(kind: u8) -> bool
     ensures { result ≡ is_vet kind }
 {
-    match Kind::try_from(kind) {
-        Ok(Kind::Vet) => true,
-        _ => false,
-    }
+    matches!(Kind::try_from(kind), Ok(Kind::Vet))
 }
 
 // Whether the kind has an identity.
 pub fn is_identified(kind: u8) -> bool
     ensures { result ≡ is_identified kind }
 {
-    match Kind::try_from(kind) {
-        Ok(Kind::General | Kind::ExternalExamination) => true,
-        _ => false,
-    }
+    matches!(
+        Kind::try_from(kind),
+        Ok(Kind::General | Kind::ExternalExamination)
+    )
 }
