@@ -16,7 +16,7 @@ use Rattle.seek.specs.InnerTest.{value_at, Allowed, Answers}
 use Rattle.seek.specs.InnerSearch.{Sought}
 use Rattle.seek.specs.declared.search.Test.{Test}
 use Rattle.seek.specs.declared.search.Lead.{Lead}
-use Rattle.seek.specs.declared.search.Lead.TheVariants.{Leading, Nothing}
+use Rattle.std.proofs.Common.{Option, Some, None}
 use Rattle.seek.proofs.Tops.{answers_iff, answers_sum}
 use Rattle.results.specs.Results.{Student, held, result}
 use Rattle.results.specs.Scoring.{score_at}
@@ -39,11 +39,11 @@ use Rattle.bestset.proofs.Usable.{repeated-is}
 -- ---- what the search finds
 
 module _ (s : Student) (table : List ℕ) where
-  best-answered : (b : Lead) → Answers (Admissible s) (score_at s table) b → Answered s table (outcome b)
-  best-answered (Leading total set) t =
+  best-answered : (b : Option Lead) → Answers (Admissible s) (score_at s table) b → Answered s table (outcome b)
+  best-answered (Some v) t =
       let e = t.sum in
       record { admissible = t.right; aggregate = ap aggregate_of (sym e); most = λ u a. omega (arith, t.most u a); first = λ u a h. t.first u a (h ∙ e) }
-  best-answered Nothing n = (refl, n)
+  best-answered None n = (refl, n)
 
   module _ (w : WellFormed s table) (test : Test) (clash : ℕ → ℕ) (m : TestOf s test clash) (scores : List ℕ) (k : ByPosition (score_at s table) (held s) scores) where
     -- what the search is given
@@ -56,7 +56,7 @@ module _ (s : Student) (table : List ℕ) where
         }
 
     -- what it finds is what a well-formed student with English shown is owed
-    pub found-answered : (b : Lead) → Answers (Allowed test clash) (value_at scores) b → Answered s table (outcome b)
+    pub found-answered : (b : Option Lead) → Answers (Allowed test clash) (value_at scores) b → Answered s table (outcome b)
     found-answered b a =
         best-answered b
         (answers_sum (Admissible s) (value_at scores) (score_at s table)

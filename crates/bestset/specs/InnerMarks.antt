@@ -1,12 +1,11 @@
 -- What is read of the results: masks, bit i for result i, and numbers by position.
-use Rattle.std.specs.Prelude.{ℕ, ◌≤◌, ◌<◌, ◌≡◌, ◌&&◌, List, length}
+use Rattle.std.specs.Prelude.{ℕ, ◌≤◌, ◌<◌, ◌≡◌, ◌&&◌, List, length, Option, Some, None}
 use Rattle.paper.specs.Limits.{most_results}
 use Rattle.paper.specs.Refusals.{fault}
 use Rattle.paper.specs.Rulings.{Outcome, accepted, refused, ◌at◌, judged}
 use Rattle.catalogue.specs.Kinds.{english, mathematics}
 use Rattle.seek.specs.InnerTest.{value_at}
 use Rattle.seek.specs.declared.search.Lead.{Lead}
-use Rattle.seek.specs.declared.search.Lead.TheVariants.{Leading, Nothing}
 use Rattle.results.specs.Results.{held_in, Student, held, result}
 use Rattle.results.specs.Counting.{of_general, of_applied, of_strand, general_at, applied_at, strand_at, usable, passes, passes_at}
 use Rattle.results.specs.Scoring.{score_at, identity_at}
@@ -72,6 +71,6 @@ ReadAs s table (All masks) scores identities = (judged (turn_rules s table) (tt 
 ReadAs s table (Wrong x) scores identities = judged (turn_rules s table) (tt {0}) ≡ refused (fault x)
 
 -- what the search found: the aggregate and the set; or 8
-abbrev pub outcome : Lead → Outcome Values
-outcome (Leading total set) = accepted (record { aggregate = aggregate_of total; set = set })
-outcome Nothing = refused (8 at 0)
+abbrev pub outcome : Option Lead → Outcome Values
+outcome (Some lead) = accepted (record { aggregate = aggregate_of lead.total; set = lead.set })
+outcome None = refused (8 at 0)

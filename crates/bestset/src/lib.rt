@@ -16,8 +16,7 @@ use paper::rounding;
 use paper::screening::Verdict;
 use paper::units::HUNDREDTHS;
 use paper::widening::wide32;
-use seek::search;
-use seek::search::{Lead, Test};
+use seek::search::{Lead, Search, Test};
 use sets::Answer;
 
 mod marks;
@@ -31,14 +30,14 @@ fn aggregate_of(sum: u32) -> u32
 }
 
 // What the search found: the aggregate and the set, or 8.
-fn told(lead: Lead) -> Answer
+fn told(lead: Option<Lead>) -> Answer
     ensures { said result ≡ outcome lead }
 {
     match lead {
-        Lead::Nothing => Answer::Refused(Refusal::NoSet),
-        Lead::Leading { total, set } => Answer::Accepted {
-            aggregate: aggregate_of(total),
-            set,
+        None => Answer::Refused(Refusal::NoSet),
+        Some(lead) => Answer::Accepted {
+            aggregate: aggregate_of(lead.total),
+            set: lead.set,
         },
     }
 }
@@ -76,7 +75,13 @@ fn weigh(catalogue: &[u8], table: &[u8], year: u64, results: &[u8]) -> Answer
         kept,
         general: masks.general,
     };
-    told(search::search(test, &clashes, &scores, results.len() / RESULT_BYTES))
+    told(Search {
+        test,
+        clashes: &clashes,
+        scores: &scores,
+        held: results.len() / RESULT_BYTES,
+    }
+    .search())
 }
 
 // The best set of five results, for the assessment year.

@@ -18,13 +18,17 @@ use Rattle.seek.specs.InnerTest.{value_at, Counted, Allowed, Joins, MayJoin, Bea
 use Rattle.seek.specs.InnerSearch.{Sought, key, room, From, Tried, Before, Fits, Stands, with_result, Bettered}
 use Rattle.seek.specs.declared.search.Test.{Test}
 use Rattle.seek.specs.declared.search.Lead.{Lead}
-use Rattle.seek.specs.declared.search.Lead.TheVariants.{Leading, Nothing}
+use Rattle.std.proofs.Common.{Option, Some, None}
 use Rattle.seek.proofs.Digits.{high_bit, no_high, all_below, in_lt, in_none, in_joined, low_bit, top_bit, one_shl, comes_most, comes_join, comes_none}
 use Rattle.seek.proofs.Order.{key-lt, key-zero, key-join, key-within, earlier, grown}
 use Rattle.seek.proofs.Meets.{length-set}
 use Rattle.seek.proofs.Tops.{answers_iff, answers_more, answers_same}
 
 -- ---- the allowed sets
+
+-- a set that leads, with its total
+abbrev leading : ℕ → ℕ → Option Lead
+leading total set = Some (record { total = total; set = set })
 
 -- what the search asks: at most so many results are held, and the kept ones are among them
 pub record Among (mask held : ℕ) : Type 0 where
@@ -45,11 +49,11 @@ under m n = go (dec_le m n)
 
 module _ (Adm : ℕ → Type 0) (score : ℕ → ℕ) where
   -- at first no set has been tried
-  tried-none : (m : ℕ) → 2 ^ most_results ≤ m → Tried Adm score m Nothing
+  tried-none : (m : ℕ) → 2 ^ most_results ≤ m → Tried Adm score m None
   tried-none m h t d = let k = key-lt most_results t in omega arith
 
   -- sets are passed of which none is admissible
-  tried-lower : (m n : ℕ) (b : Lead) → n ≤ m → ((t : ℕ) → n ≤ key most_results t → key most_results t < m → Adm t → ⊥) → Tried Adm score m b → Tried Adm score n b
+  tried-lower : (m n : ℕ) (b : Option Lead) → n ≤ m → ((t : ℕ) → n ≤ key most_results t → key most_results t < m → Adm t → ⊥) → Tried Adm score m b → Tried Adm score n b
   tried-lower m n b h w =
       answers_iff (From Adm m) (From Adm n) score (λ t d. (omega arith, d.1))
       (λ t d. ⊎_elim (λ (q : m ≤ key most_results t). (q, d.1)) (λ (q : key most_results t < m). absurd (w t d.0 q d.1)) (under m (key most_results t))) b
@@ -59,11 +63,11 @@ module _ (Adm : ℕ → Type 0) (score : ℕ → ℕ) where
     one_more : (t : ℕ) → From Adm (key most_results s) t → From Adm m t ⊎ (t ≡ s)
     one_more t d = ⊎_elim (λ (q : m ≤ key most_results t). inl (q, d.1)) (λ (q : key most_results t < m). inr (w t d.0 q d.1)) (under m (key most_results t))
 
-    tried-beats : Adm s → (b : Lead) → Beats b (comes_to score s) → Tried Adm score m b → Tried Adm score (key most_results s) (Leading (comes_to score s) s)
+    tried-beats : Adm s → (b : Option Lead) → Beats b (comes_to score s) → Tried Adm score m b → Tried Adm score (key most_results s) (leading (comes_to score s) s)
     tried-beats ok = answers_more (From Adm m) (From Adm (key most_results s)) score s one_more (le_refl (key most_results s), ok)
 
     tried-keeps : ((t : ℕ) → Adm t → length (positions t) ≡ members)
-        → (b : Lead) → (Beats b (comes_to score s) → ⊥) → Tried Adm score m b → Tried Adm score (key most_results s) b
+        → (b : Option Lead) → (Beats b (comes_to score s) → ⊥) → Tried Adm score m b → Tried Adm score (key most_results s) b
     tried-keeps five =
         answers_same (From Adm m) (From Adm (key most_results s)) score s one_more (λ t d. (omega arith, d.1))
         (λ y t c d e.
@@ -72,7 +76,7 @@ module _ (Adm : ℕ → Type 0) (score : ℕ → ℕ) where
         earlier most_results 0 y t (five y c.1 ∙ sym (five t d.1)) (omega arith))
 
   -- at last every set has been tried
-  tried-all : (b : Lead) → Tried Adm score 0 b → Answers Adm score b
+  tried-all : (b : Option Lead) → Tried Adm score 0 b → Answers Adm score b
   tried-all = answers_iff (From Adm 0) Adm score (λ t d. d.1) (λ t d. (omega arith, d))
 
 -- ---- where the search stands
@@ -169,8 +173,8 @@ module _ (test : Test) {held : ℕ} (w : Among test.kept held) where
         let o = length-set t (small-most w t (below clash t d)) in
         grown at set t (ahead w place t p q) (omega arith)
 
-    module _ (score : ℕ → ℕ) (best : Lead) (before : Tried (Allowed test clash) score (room at set) best) where
-      leads : Allowed test clash set → Beats best (comes_to score set) → Tried (Allowed test clash) score (key most_results set) (Leading (comes_to score set) set)
+    module _ (score : ℕ → ℕ) (best : Option Lead) (before : Tried (Allowed test clash) score (room at set) best) where
+      leads : Allowed test clash set → Beats best (comes_to score set) → Tried (Allowed test clash) score (key most_results set) (leading (comes_to score set) set)
       leads ok e = tried-beats (Allowed test clash) score (room at set) set (room-more at set) leaf ok best e before
 
       drops : (Allowed test clash set → ⊥) → Tried (Allowed test clash) score (key most_results set) best
@@ -182,7 +186,7 @@ module _ (test : Test) {held : ℕ} (w : Among test.kept held) where
       stays n = tried-keeps (Allowed test clash) score (room at set) set (room-more at set) leaf (λ t d. d.counted.five) best n before
 
 module _ {test : Test} {clash score : ℕ → ℕ} {held : ℕ} where
-  pub starts : (ones 0 ≤ 3) × Stands test clash score held (room 0 0) Nothing 0 0 0
+  pub starts : (ones 0 ≤ 3) × Stands test clash score held (room 0 0) None 0 0 0
   starts = (
     let z = ones-ones 0 in omega arith,
     record {
@@ -194,7 +198,7 @@ module _ {test : Test} {clash score : ℕ → ℕ} {held : ℕ} where
   )
 
   module _ (w : Among test.kept held) where
-    module _ {best : Lead} {at set sum : ℕ} (s : Stands test clash score held (room at set) best at set sum) where
+    module _ {best : Option Lead} {at set sum : ℕ} (s : Stands test clash score held (room at set) best at set sum) where
       -- too few results are left
       pub short : ones set + held < members + at → Tried (Allowed test clash) score (key most_results set) best
       short few =
@@ -218,7 +222,7 @@ module _ {test : Test} {clash score : ℕ → ℕ} {held : ℕ} where
         under_most = let f = w.few in omega arith
 
         -- past result `at`
-        passed : {best' : Lead} → Tried (Allowed test clash) score (room (suc at) set) best' → Stands test clash score held (room (at + 1) set) best' (at + 1) set sum
+        passed : {best' : Option Lead} → Tried (Allowed test clash) score (room (suc at) set) best' → Stands test clash score held (room (at + 1) set) best' (at + 1) set sum
         passed t = rw (add-one at) (record { place = pass_at h s.place; fits = s.fits; worth = s.worth; tried = t })
 
         -- result `at` is passed over: no allowed set has it beside the members
@@ -248,11 +252,11 @@ module _ {test : Test} {clash score : ℕ → ℕ} {held : ℕ} where
             omega arith
 
         -- all that go on from the set with it have been tried
-        after-whole : {best' : Lead} → Tried (Allowed test clash) score (key most_results whole) best' → Stands test clash score held (room (at + 1) set) best' (at + 1) set sum
+        after-whole : {best' : Option Lead} → Tried (Allowed test clash) score (key most_results whole) best' → Stands test clash score held (room (at + 1) set) best' (at + 1) set sum
         after-whole {best'} t = passed (subst (λ (m : ℕ). Tried (Allowed test clash) score m best') (key-next at set under_most s.place.small) t)
 
         -- a fifth result is tried
-        pub fifth : {best' : Lead} {sum' : ℕ} → sum' ≡ sum + score at → ones set ≡ 4 → Bettered test clash best set at sum' best'
+        pub fifth : {best' : Option Lead} {sum' : ℕ} → sum' ≡ sum + score at → ones set ≡ 4 → Bettered test clash best set at sum' best'
             → Stands test clash score held (room (at + 1) set) best' (at + 1) set sum
         fifth {best'} {sum'} f four b = go b
           where
@@ -275,18 +279,18 @@ module _ {test : Test} {clash score : ℕ → ℕ} {held : ℕ} where
                 let m : 2 ^ suc at ≤ 2 ^ most_results = pow_mono top in
                 record { small = omega (arith, come.small); kept = fit.kept; counted = subst (Counted test.general) whole_is c; apart = fit.apart }
 
-            Then : Lead → Type 0
+            Then : Option Lead → Type 0
             Then b = Tried (Allowed test clash) score (key most_results whole) b
 
             go : Bettered test clash best set at sum' best' → Stands test clash score held (room (at + 1) set) best' (at + 1) set sum
             go (inl (e, more, joins, counts)) =
-                let lead : best' ≡ Leading (comes_to score whole) whole = e ∙ ap₂ Leading worth whole_is in
+                let lead : best' ≡ leading (comes_to score whole) whole = e ∙ ap₂ leading worth whole_is in
                 after-whole (subst Then (sym lead) (leads test w clash come five score best tried-whole (allowed joins counts) (subst (λ (x : ℕ). Beats best x) worth more)))
             go (inr (e, x)) =
                 ⊎_elim
                 (λ no. after-whole (subst Then (sym e) (stays test w clash come five score best tried-whole (subst (λ (x : ℕ). Beats best x → ⊥) worth no))))
                 (⊎_elim
-                (λ never. subst (λ (b : Lead). Stands test clash score held (room (at + 1) set) b (at + 1) set sum) (sym e) (passes_over never))
+                (λ never. subst (λ (b : Option Lead). Stands test clash score held (room (at + 1) set) b (at + 1) set sum) (sym e) (passes_over never))
                 (λ none. after-whole (subst Then (sym e) (drops test w clash come five score best tried-whole (λ d. none (subst (Counted test.general) (sym whole_is) d.counted))))))
                 x
 
@@ -302,12 +306,12 @@ module _ {test : Test} {clash score : ℕ → ℕ} {held : ℕ} where
           joins f = rw (set_is, add-one at) (record { place = join_at h s.place; fits = fits_more s.place.small s.fits d; worth = f ∙ sym worth-whole; tried = tried-whole })
 
           -- all that go on from it have been tried
-          pub after : {best' : Lead} → Tried (Allowed test clash) score (key most_results set') best' → Stands test clash score held (room (at + 1) set) best' (at + 1) set sum
+          pub after : {best' : Option Lead} → Tried (Allowed test clash) score (key most_results set') best' → Stands test clash score held (room (at + 1) set) best' (at + 1) set sum
           after {best'} t = after-whole (subst (λ (m : ℕ). Tried (Allowed test clash) score m best') (ap (key most_results) set_is) t)
 
   -- ---- back to the last member
 
-  module _ {best : Lead} {at set sum : ℕ} (s : Stands test clash score held (key most_results set) best at set sum) where
+  module _ {best : Option Lead} {at set sum : ℕ} (s : Stands test clash score held (key most_results set) best at set sum) where
     module _ (few : held ≤ most_results) (n : at ≡ 0 → ⊥) where
       at-is : at ≡ suc (at - 1)
       at-is = omega arith
@@ -389,7 +393,7 @@ module _ {test : Test} {clash score : ℕ → ℕ} {held : ℕ} where
         tried-all (Allowed test clash) score best (subst (λ (m : ℕ). Tried (Allowed test clash) score m best) k s.tried)
 
 -- a sum and a score more fit
-pub sum_fits : {test : Test} {clash : ℕ → ℕ} {held m : ℕ} {scores : List ℕ} {best : Lead} {at set sum : ℕ} → Sought test.kept scores held
+pub sum_fits : {test : Test} {clash : ℕ → ℕ} {held m : ℕ} {scores : List ℕ} {best : Option Lead} {at set sum : ℕ} → Sought test.kept scores held
     → Stands test clash (value_at scores) held m best at set sum → (i : ℕ) → sum + value_at scores i ≤ most_results * top_score + top_score
 sum_fits {scores = scores} {set = set} w s i = omega (arith, comes_most (value_at scores) top_score w.most set, w.most i, s.worth)
 

@@ -7,7 +7,7 @@ use mathlib.Core.Logic.{◌⊎◌, inl, inr, ⊎_elim}
 use Rattle.seek.specs.Sets.{positions, comes_to, Earlier}
 use Rattle.seek.specs.InnerTest.{Beats, Answers, Top}
 use Rattle.seek.specs.declared.search.Lead.{Lead}
-use Rattle.seek.specs.declared.search.Lead.TheVariants.{Leading, Nothing}
+use Rattle.std.proofs.Common.{Option, Some, None}
 use Rattle.seek.proofs.Order.{asym}
 
 -- ---- one answer
@@ -35,20 +35,20 @@ pub top_iff : {A B : ℕ → Type 0} {score : ℕ → ℕ} {a s : ℕ} → ((t :
 top_iff {s = s} f g r = record { right = f s r.right; sum = r.sum; most = λ t d. r.most t (g t d); first = λ t d. r.first t (g t d) }
 
 -- two scores by which each set comes to the same
-pub answers_sum : (A : ℕ → Type 0) (f g : ℕ → ℕ) → ((t : ℕ) → A t → comes_to f t ≡ comes_to g t) → (b : Lead) → Answers A f b → Answers A g b
-answers_sum A f g e (Leading a s) r =
+pub answers_sum : (A : ℕ → Type 0) (f g : ℕ → ℕ) → ((t : ℕ) → A t → comes_to f t ≡ comes_to g t) → (b : Option Lead) → Answers A f b → Answers A g b
+answers_sum A f g e (Some v) r =
     record {
       right = r.right;
-      sum = sym (e s r.right) ∙ r.sum;
+      sum = sym (e v.set r.right) ∙ r.sum;
       most = λ t d. omega (arith, e t d, r.most t d);
       first = λ t d h. r.first t d (e t d ∙ h);
     }
-answers_sum A f g e Nothing r = r
+answers_sum A f g e None r = r
 
 module _ (A B : ℕ → Type 0) (score : ℕ → ℕ) where
-  pub answers_iff : ((t : ℕ) → A t → B t) → ((t : ℕ) → B t → A t) → (b : Lead) → Answers A score b → Answers B score b
-  answers_iff f g (Leading a s) r = top_iff f g r
-  answers_iff f g Nothing r = λ t d. r t (g t d)
+  pub answers_iff : ((t : ℕ) → A t → B t) → ((t : ℕ) → B t → A t) → (b : Option Lead) → Answers A score b → Answers B score b
+  answers_iff f g (Some v) r = top_iff f g r
+  answers_iff f g None r = λ t d. r t (g t d)
 
   -- ---- one set s more
 
@@ -57,15 +57,15 @@ module _ (A B : ℕ → Type 0) (score : ℕ → ℕ) where
     most-of x h e t d = ⊎_elim (h t) (λ (q : t ≡ s). let k = ap (comes_to score) q in omega arith) (g t d)
 
     -- which comes to more
-    pub answers_more : B s → (b : Lead) → Beats b (comes_to score s) → Answers A score b → Answers B score (Leading (comes_to score s) s)
-    answers_more ok (Leading x y) e r =
+    pub answers_more : B s → (b : Option Lead) → Beats b (comes_to score s) → Answers A score b → Answers B score (Some (record { total = comes_to score s; set = s }))
+    answers_more ok (Some v) e r =
         record {
           right = ok;
           sum = refl;
           most = most-of (comes_to score s) (λ t q. let k = r.most t q in omega arith) (le_refl (comes_to score s));
           first = λ t d f. ⊎_elim (λ (q : A t). let k = r.most t q in absurd (omega arith)) inl (g t d);
         }
-    answers_more ok Nothing e r =
+    answers_more ok None e r =
         record {
           right = ok;
           sum = refl;
@@ -75,12 +75,12 @@ module _ (A B : ℕ → Type 0) (score : ℕ → ℕ) where
 
     -- which comes to no more, and after the others
     pub answers_same : ((t : ℕ) → A t → B t) → ((y t : ℕ) → A y → B t → t ≡ s → Earlier (positions y) (positions t))
-        → (b : Lead) → (Beats b (comes_to score s) → ⊥) → Answers A score b → Answers B score b
-    answers_same f l (Leading x y) n r =
+        → (b : Option Lead) → (Beats b (comes_to score s) → ⊥) → Answers A score b → Answers B score b
+    answers_same f l (Some v) n r =
         record {
-          right = f y r.right;
+          right = f v.set r.right;
           sum = r.sum;
-          most = most-of x r.most (omega arith);
-          first = λ t d e. ⊎_elim (λ (q : A t). r.first t q e) (λ (q : t ≡ s). inr (l y t r.right d q)) (g t d);
+          most = most-of v.total r.most (omega arith);
+          first = λ t d e. ⊎_elim (λ (q : A t). r.first t q e) (λ (q : t ≡ s). inr (l v.set t r.right d q)) (g t d);
         }
-    answers_same f l Nothing n r = absurd (n tt)
+    answers_same f l None n r = absurd (n tt)

@@ -1,10 +1,9 @@
 -- The sets that are allowed, over what is known of the results by position, and what the search gives.
-use Rattle.std.specs.Prelude.{ℕ, ◌^◌, ◌≤◌, ◌<◌, ◌≡◌, ◌⊎◌, Bool, true, false, List, length, get_or}
+use Rattle.std.specs.Prelude.{ℕ, ◌^◌, ◌≤◌, ◌<◌, ◌≡◌, ◌⊎◌, Bool, true, false, List, length, get_or, Option, Some, None}
 use Rattle.paper.specs.Limits.{least_general, members, most_results}
 use Rattle.seek.specs.Sets.{In, has, positions, count_over, comes_to, Earlier}
 use Rattle.seek.specs.declared.search.Test.{Test}
 use Rattle.seek.specs.declared.search.Lead.{Lead}
-use Rattle.seek.specs.declared.search.Lead.TheVariants.{Leading, Nothing}
 
 -- the number at a position; 0 past the list
 abbrev pub value_at : List ℕ → ℕ → ℕ
@@ -42,9 +41,9 @@ Decides true P = P
 Decides false P = P → ⊥
 
 -- a sum is more than the best so far
-abbrev pub Beats : Lead → ℕ → Type 0
-Beats (Leading total set) sum = total < sum
-Beats Nothing sum = Unit {0}
+abbrev pub Beats : Option Lead → ℕ → Type 0
+Beats (Some lead) sum = lead.total < sum
+Beats None sum = Unit {0}
 
 -- of the sets that Adm admits this one, of this total, is the best: none comes to more, and of those that come to as much it is the first
 pub record Top (Adm : ℕ → Type 0) (score : ℕ → ℕ) (total set : ℕ) : Type 0 where
@@ -54,6 +53,6 @@ pub record Top (Adm : ℕ → Type 0) (score : ℕ → ℕ) (total set : ℕ) : 
   pub first : (other : ℕ) → Adm other → comes_to score other ≡ total → (other ≡ set) ⊎ Earlier (positions set) (positions other)
 
 -- the best of the admissible sets, or that there is none
-abbrev pub Answers : (ℕ → Type 0) → (ℕ → ℕ) → Lead → Type 0
-Answers Adm score (Leading total set) = Top Adm score total set
-Answers Adm score Nothing = (t : ℕ) → Adm t → ⊥
+abbrev pub Answers : (ℕ → Type 0) → (ℕ → ℕ) → Option Lead → Type 0
+Answers Adm score (Some lead) = Top Adm score lead.total lead.set
+Answers Adm score None = (t : ℕ) → Adm t → ⊥

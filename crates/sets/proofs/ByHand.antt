@@ -17,11 +17,12 @@ use Rattle.results.specs.Results.{student}
 use Rattle.results.specs.Scoring.{score_found, score}
 use Rattle.results.specs.Counting.{usable, usable_at, shows_english, kept}
 use Rattle.sets.specs.Rules.{wrong, unscored, repeated}
-use Rattle.sets.specs.Promise.{Values, aggregate_of}
+use Rattle.sets.specs.Promise.{aggregate_of}
+use Rattle.sets.specs.declared.BestSet.{BestSet}
 use Rattle.sets.specs.Computed.{admissible, earlier, chosen, computed}
 use Rattle.sets.specs.Examples.{one_score, table, result, seven, eight, nine, catalogue2, table2, dated, three, english10}
 
-abbrev pub gives : ℕ → ℕ → Outcome Values
+abbrev pub gives : ℕ → ℕ → Outcome BestSet
 gives aggregate set = accepted (record { aggregate = aggregate; set = set })
 
 -- student 7 without Methods, 8 without Essential Mathematics, 9 without a set
@@ -29,7 +30,7 @@ pub students : (computed seven table ≡ gives 36000 61) × (computed eight tabl
 unfolding slots_from word_bytes long_bytes first word long in_turn outside found slot_of ones_from sum_over count_over score_found score usable usable_at shows_english kept wrong unscored repeated admissible earlier chosen aggregate_of nearest
 students = (refl, refl, refl)
 
-abbrev pub best : List ℕ → Outcome Values
+abbrev pub best : List ℕ → Outcome BestSet
 best results = computed (student catalogue2 2021 results) table2
 
 -- six Generals at 50.00, one an English C: positions 0 to 4
@@ -68,7 +69,7 @@ unfolding slots_from word_bytes long_bytes first word long in_turn outside found
 refusals = (refl, refl, refl, refl, refl, refl, refl, refl, refl, refl, refl, refl, refl)
 
 -- one subject and one result: its slot holds 1000000, 1000001, what was missing in 16 bits, or is missing
-abbrev pub one_row : ℕ → Outcome Values
+abbrev pub one_row : ℕ → Outcome BestSet
 one_row score = computed (student (1 ∷ 1 ∷ 0 ∷ 0 ∷ 1 ∷ []) 2021 (result 0 letter_c 50 [])) (one_score 50 score)
 
 pub slot : (one_row 1000000 ≡ refused (8 at 0)) × (one_row 1000001 ≡ refused (5 at 0)) × (one_row 65535 ≡ refused (8 at 0)) × (one_row missing ≡ refused (5 at 0))

@@ -15,7 +15,8 @@ use Rattle.results.specs.Results.{student}
 use Rattle.results.specs.Scoring.{score_found, score}
 use Rattle.results.specs.Counting.{usable, usable_at, shows_english, kept}
 use Rattle.sets.specs.Rules.{wrong, unscored, repeated}
-use Rattle.sets.specs.Promise.{Values, aggregate_of}
+use Rattle.sets.specs.Promise.{aggregate_of}
+use Rattle.sets.specs.declared.BestSet.{BestSet}
 use Rattle.sets.specs.Computed.{admissible, earlier, chosen, computed}
 use Rattle.sets.specs.Examples.{catalogue3, dated}
 use Rattle.sets.proofs.ByHand.{gives}
@@ -36,10 +37,10 @@ abbrev pub five : List ℕ → List ℕ
 five more = dated 0 letter_c 1 2021 (dated 1 letter_c 1 2021 (dated 2 letter_c 1 2021 (dated 3 letter_c 1 2021 (dated 4 letter_c 1 2021 more))))
 
 -- a student of five results by their scores, and one of six
-abbrev pub of_five : ℕ → ℕ → ℕ → ℕ → ℕ → Outcome Values
+abbrev pub of_five : ℕ → ℕ → ℕ → ℕ → ℕ → Outcome BestSet
 of_five a b c d e = computed (student catalogue3 2021 (five [])) (rows (a ∷ b ∷ c ∷ d ∷ e ∷ 0 ∷ 0 ∷ []))
 
-abbrev pub of_six : ℕ → ℕ → ℕ → ℕ → ℕ → ℕ → Outcome Values
+abbrev pub of_six : ℕ → ℕ → ℕ → ℕ → ℕ → ℕ → Outcome BestSet
 of_six a b c d e f = computed (student catalogue3 2021 (five (dated 5 letter_c 1 2021 []))) (rows (a ∷ b ∷ c ∷ d ∷ e ∷ f ∷ 0 ∷ []))
 
 -- no score is rounded before the sum: five that end in 40 come to 2 hundredths more, in 50 to 2.5, in 60 to 3; one at 87.3812 and four at 84.8109

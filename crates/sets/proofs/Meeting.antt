@@ -5,22 +5,25 @@ use mathlib.Core.Bool.{not}
 use mathlib.Core.List.{List, [], ◌∷◌, ◌++◌}
 use lib.Pow.{pow_mono}
 use Rattle.paper.specs.Limits.{most_results}
-use Rattle.paper.specs.Promises.{Permits}
+use Rattle.std.proofs.Common.{Result}
+use Rattle.paper.specs.Promises.{Permits, said, answer}
+use Rattle.paper.specs.declared.refusal.Refusal.{Refusal}
 use Rattle.paper.specs.Rulings.{Outcome, accepted, refused, ◌⇒◌, ◌at◌}
 use Rattle.paper.proofs.Promised as every
+use Rattle.paper.proofs.Said.{tells}
 use Rattle.paper.proofs.Ruled.{all_unbroken, unbroken_all, unbroken_parts, Tabled, Refusing, tabled, tabled_join, tabled_turns}
 use Rattle.seek.proofs.Digits.{all_below}
 use Rattle.results.specs.Results.{Student, held}
 use Rattle.results.specs.Counting.{shows_english}
 use Rattle.sets.specs.Admissible.{Admissible}
 use Rattle.sets.specs.Rules.{result_rules, turn_rules, repeat_rule, student_rules}
-use Rattle.sets.specs.Promise.{said, WellFormed, ruling, total_of, Answered, RuledBy, Ruled, Promise}
-use Rattle.sets.specs.Computed.{Choice, none, one, chosen, admissible, told, decided, computed, answer}
-use Rattle.sets.specs.declared.Answer.{Answer}
+use Rattle.sets.specs.Promise.{WellFormed, ruling, total_of, Answered, RuledBy, Ruled, Promise}
+use Rattle.sets.specs.Computed.{Choice, none, one, chosen, admissible, told, decided, computed}
+use Rattle.sets.specs.declared.BestSet.{BestSet}
 use Rattle.sets.proofs.Formed.{kept-held, few-held}
 use Rattle.sets.proofs.Choosing.{Led, chosen-led}
 use Rattle.sets.proofs.Deciding.{test_admissible, admissible-test}
-use Rattle.sets.proofs.Promised.{tells, ruled-once}
+use Rattle.sets.proofs.Promised.{ruled-once}
 
 -- an admissible set is one of the results held
 set-held : (s : Student) (set : ℕ) → Admissible s set → set < 2 ^ held s
@@ -86,13 +89,13 @@ module _ (s : Student) (table : List ℕ) where
   meets = every.meets tells rules every.owes_none computed-tabled
 
   -- and no other
-  pub only : {r : Answer} → Promise s table r → r ≡ answer (computed s table)
+  pub only : {r : Result BestSet Refusal} → Promise s table r → r ≡ answer (computed s table)
   only p = (every.only tells rules every.owes_none p).0
 
   -- two permitted answers are equal
-  pub determined : {r q : Answer} → Promise s table r → Promise s table q → r ≡ q
+  pub determined : {r q : Result BestSet Refusal} → Promise s table r → Promise s table q → r ≡ q
   determined p q = (every.determined tells rules every.owes_none p q).0
 
   -- what is said is what is computed
-  pub said-only : {r : Answer} → Promise s table r → said r ≡ computed s table
+  pub said-only : {r : Result BestSet Refusal} → Promise s table r → said r ≡ computed s table
   said-only {r} p = rules.alone (said r) p.says

@@ -2,33 +2,21 @@
 use Prim.Native.Nat.{ℕ}
 use mathlib.Core.Path.{◌≡◌, refl, sym, ap, ap₂, ◌∙◌}
 use mathlib.Core.List.{List}
-use Rattle.paper.specs.Promises.{Tells}
 use Rattle.paper.specs.Rulings.{Outcome, accepted, refused}
-use Rattle.paper.proofs.Ruled.{refusal-fault}
 use Rattle.seek.specs.InnerTest.{Top}
 use Rattle.seek.proofs.Tops.{one-top}
 use Rattle.results.specs.Results.{Student}
 use Rattle.results.specs.Scoring.{score_at}
 use Rattle.sets.specs.Admissible.{Admissible}
-use Rattle.sets.specs.Promise.{Values, said, ruling, total_of, aggregate_of, Chosen, Answered, RuledBy, Ruled}
-use Rattle.sets.specs.Computed.{accept, answer}
-use Rattle.sets.specs.declared.Answer.{Answer}
-use Rattle.sets.specs.declared.Answer.TheVariants.{Accepted, Refused}
-
--- what is said tells the answer
-pub tells : Tells said accept Refused
-tells = record { accepting = λ v. refl; refusing = λ x. refl; told = told }
-  where
-    told : (r : Answer) → answer (said r) ≡ r
-    told (Accepted aggregate set) = refl
-    told (Refused x) = ap Refused (refusal-fault x)
+use Rattle.sets.specs.Promise.{ruling, total_of, aggregate_of, Chosen, Answered, RuledBy, Ruled}
+use Rattle.sets.specs.declared.BestSet.{BestSet}
 
 module _ (s : Student) (table : List ℕ) where
   -- a chosen set is the best of the admissible ones, so two are one
-  chosen-top : (v : Values) → Chosen s table v → Top (Admissible s) (score_at s table) (total_of s table v.set) v.set
+  chosen-top : (v : BestSet) → Chosen s table v → Top (Admissible s) (score_at s table) (total_of s table v.set) v.set
   chosen-top v a = record { right = a.admissible; sum = refl; most = a.most; first = a.first }
 
-  pub answered-once : (o p : Outcome Values) → Answered s table o → Answered s table p → o ≡ p
+  pub answered-once : (o p : Outcome BestSet) → Answered s table o → Answered s table p → o ≡ p
   answered-once (accepted v) (accepted w) a b =
       let e : v.set ≡ w.set = (one-top (chosen-top v a) (chosen-top w b)).1 in
       let g : v.aggregate ≡ w.aggregate = a.aggregate ∙ ap (λ (t : ℕ). aggregate_of (total_of s table t)) e ∙ sym b.aggregate in
@@ -38,7 +26,7 @@ module _ (s : Student) (table : List ℕ) where
   answered-once (refused f) (refused g) a b = ap refused (a.0 ∙ sym b.0)
 
   -- two outcomes that are permitted are one
-  pub ruled-once : (o p : Outcome Values) → Ruled s table o → Ruled s table p → o ≡ p
+  pub ruled-once : (o p : Outcome BestSet) → Ruled s table o → Ruled s table p → o ≡ p
   ruled-once o p = go (ruling s table)
     where
       go : (u : Outcome (Unit {0})) → RuledBy s table u o → RuledBy s table u p → o ≡ p

@@ -9,7 +9,8 @@ use Rattle.paper.specs.Rounding.{Nearest}
 use Rattle.paper.proofs.Rounded.{nearest-is, nearest-most, nearest-rises}
 use Rattle.results.specs.Results.{Student}
 use Rattle.sets.specs.Admissible.{Admissible}
-use Rattle.sets.specs.Promise.{Values, total_of, aggregate_of, Chosen}
+use Rattle.sets.specs.Promise.{total_of, aggregate_of, Chosen}
+use Rattle.sets.specs.declared.BestSet.{BestSet}
 
 -- no whole number of hundredths is nearer to the sum, and none that is as near is greater
 pub rounded : (sum : ℕ) → Nearest (hundredths * sum) score_parts (aggregate_of sum)
@@ -26,7 +27,7 @@ pub rounded-rises : (a b : ℕ) → a ≤ b → aggregate_of a ≤ aggregate_of 
 unfolding aggregate_of
 rounded-rises a b h = nearest-rises (hundredths * a) (hundredths * b) score_parts (omega arith)
 
-module _ (s : Student) (table : List ℕ) (v : Values) (c : Chosen s table v) where
+module _ (s : Student) (table : List ℕ) (v : BestSet) (c : Chosen s table v) where
   -- the aggregate is the nearest to what the chosen set comes to
   pub aggregate-nearest : Nearest (hundredths * total_of s table v.set) score_parts v.aggregate
   aggregate-nearest = subst (Nearest (hundredths * total_of s table v.set) score_parts) (sym c.aggregate) (rounded (total_of s table v.set))

@@ -20,7 +20,8 @@ use Rattle.results.specs.declared.reading.Result.{Result}
 use Rattle.results.proofs.Scores.{score-most}
 use Rattle.sets.specs.Admissible.{Admissible}
 use Rattle.sets.specs.Rules.{is_score, unscored, same_year, repeated}
-use Rattle.sets.specs.Promise.{Values, WellFormed, total_of, Chosen}
+use Rattle.sets.specs.Promise.{WellFormed, total_of, Chosen}
+use Rattle.sets.specs.declared.BestSet.{BestSet}
 use Rattle.sets.proofs.Formed.{rules_kept, usable-held}
 use Rattle.sets.proofs.Rounding.{rounded-most}
 
@@ -66,7 +67,7 @@ sum-most f [] h = omega arith
 sum-most f (i ∷ l) h = omega (arith, h i, sum-most f l h)
 
 -- the aggregate is the sum of five scores in hundredths, nearest, halves up: 0 to 50000
-pub aggregate-most : (s : Student) (table : List ℕ) (v : Values) → Chosen s table v → v.aggregate ≤ most_aggregate
+pub aggregate-most : (s : Student) (table : List ℕ) (v : BestSet) → Chosen s table v → v.aggregate ≤ most_aggregate
 aggregate-most s table v w =
     let five = sum-most (score_at s table) (positions v.set) (λ i. score-most table (result s i)) in
     omega (arith, w.aggregate, rounded-most (total_of s table v.set) most_aggregate (omega (arith, w.admissible.five)))

@@ -2,7 +2,6 @@
 use Rattle.std.specs.Prelude.{ℕ, zero, suc, ◌+◌, ◌^◌, Bool, true, false, not, ◌&&◌, ◌||◌, List, [], ◌∷◌, length}
 use Rattle.paper.specs.Limits.{most_results, members, least_general, most_span}
 use Rattle.paper.specs.Lists.{some}
-use Rattle.paper.specs.Promises.{answered}
 use Rattle.paper.specs.Rulings.{Outcome, accepted, refused, ◌at◌}
 use Rattle.paper.specs.Words.{◌≤?◌, ◌<?◌, ◌=?◌, when◌then◌else◌}
 use Rattle.catalogue.specs.Kinds.{english, mathematics}
@@ -10,9 +9,8 @@ use Rattle.seek.specs.Sets.{has, positions, count_over}
 use Rattle.results.specs.Results.{Student, held, result}
 use Rattle.results.specs.Counting.{general_at, applied_at, strand_at, kept}
 use Rattle.sets.specs.Admissible.{identified}
-use Rattle.sets.specs.Promise.{Values, ruling, total_of, aggregate_of}
-use Rattle.sets.specs.declared.Answer.{Answer}
-use Rattle.sets.specs.declared.Answer.TheVariants.{Accepted, Refused}
+use Rattle.sets.specs.Promise.{ruling, total_of, aggregate_of}
+use Rattle.sets.specs.declared.BestSet.{BestSet}
 
 -- some member has f
 abbrev pub some_in : ℕ → (ℕ → Bool) → Bool
@@ -70,20 +68,14 @@ chosen right worth zero = none
 chosen right worth (suc n) = let c = chosen right worth n in when right n then choose worth c n else c
 
 -- what is said of a choice: the aggregate and the set, or 8
-abbrev pub told : Student → List ℕ → Choice → Outcome Values
+abbrev pub told : Student → List ℕ → Choice → Outcome BestSet
 told s table none = refused (8 at 0)
 told s table (one set) = accepted (record { aggregate = aggregate_of (total_of s table set); set = set })
 
-abbrev pub decided : Student → List ℕ → Outcome (Unit {0}) → Outcome Values
+abbrev pub decided : Student → List ℕ → Outcome (Unit {0}) → Outcome BestSet
 decided s table (refused f) = refused f
 decided s table (accepted u) = told s table (chosen (admissible s) (total_of s table) (2 ^ held s))
 
 -- the whole answer
-abbrev pub computed : Student → List ℕ → Outcome Values
+abbrev pub computed : Student → List ℕ → Outcome BestSet
 computed s table = decided s table (ruling s table)
-
-abbrev pub accept : Values → Answer
-accept v = Accepted v.aggregate v.set
-
-abbrev pub answer : Outcome Values → Answer
-answer = answered accept Refused

@@ -1,16 +1,23 @@
+use Rattle.std.proofs.Common.{ℕ, ◌≡◌, ◌<◌, ◌^◌, Bool, true, false, bit_and, refl, sym, ◌∙◌, arith}
+use Rattle.std.specs.Int.Count.{ones}
+use lib.Dec.{leb}
+use borrow.Author.Tests.{leb-true, leb-false, ne_eqb}
+use Rattle.paper.specs.Limits.{members, least_general, most_results}
+use Rattle.seek.specs.InnerTest.{Counted, Decides}
 use Rattle.seek.proofs.Meets.{length-set, count_set}
-use mathlib.Core.Path.{sym, ◌∙◌}
-use native.Mathlib.Omega.{arith}
 use Rattle.seek.proofs.search.counted.Goals as goal
 
-pub returns-then-set-ne-MEMBERS : goal.returns-then-set-ne-MEMBERS
-returns-then-set-ne-MEMBERS c =
-    λ a. c.if-set-ne-MEMBERS.true (sym (length-set _ c.ranges.set.fits) ∙ a.five)
+-- of a set of five
+enough : (general set : ℕ) → set < 2 ^ most_results → ones set ≡ members → Decides (leb least_general (ones (bit_and set general))) (Counted general set)
+enough general set small five = go (leb least_general (ones (bit_and set general))) refl
+  where
+    go : (b : Bool) → leb least_general (ones (bit_and set general)) ≡ b → Decides b (Counted general set)
+    go true e = record { five = length-set set small ∙ five; four = omega (arith, count_set set general small, leb-true _ _ e) }
+    go false e = λ a. omega (arith, count_set set general small, leb-false _ _ e, a.four)
 
-pub returns-then-set-general-lt-LEAST_GENERAL : goal.returns-then-set-general-lt-LEAST_GENERAL
-returns-then-set-general-lt-LEAST_GENERAL c =
-    λ a. omega (arith, count_set c.args.set c.args.general c.ranges.set.fits, a.four)
+pub returns-then-set-eq-MEMBERS : goal.returns-then-set-eq-MEMBERS
+returns-then-set-eq-MEMBERS c = enough c.args.general c.args.set c.ranges.set.fits c.if-set-eq-MEMBERS.true
 
-pub returns : goal.returns
-returns c =
-    record { five = length-set _ c.ranges.set.fits ∙ c.if-set-ne-MEMBERS.false; four = omega (arith, count_set c.args.set c.args.general c.ranges.set.fits) }
+pub returns-else-set-eq-MEMBERS : goal.returns-else-set-eq-MEMBERS
+returns-else-set-eq-MEMBERS c =
+    rw (ne_eqb _ _ c.if-set-eq-MEMBERS.false) (λ (a : Counted c.args.general c.args.set). c.if-set-eq-MEMBERS.false (sym (length-set _ c.ranges.set.fits) ∙ a.five))

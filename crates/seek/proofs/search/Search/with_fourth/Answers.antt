@@ -1,8 +1,8 @@
 use native.Mathlib.Omega.{arith}
 use mathlib.Core.Path.{refl}
 use Rattle.seek.proofs.Steps.{held_in_lem, short, passes_over, more, joins, after, sum_fits}
-use Rattle.seek.proofs.search.with_fourth.Goals.{then-may_join, else-may_join}
-use Rattle.seek.proofs.search.with_fourth.Goals as goal
+use Rattle.seek.proofs.search.Search.with_fourth.Goals.{then-may_join, else-may_join}
+use Rattle.seek.proofs.search.Search.with_fourth.Goals as goal
 
 pub overflow_add-sum : goal.overflow_add-sum
 overflow_add-sum c =

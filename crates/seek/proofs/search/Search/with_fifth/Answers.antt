@@ -1,7 +1,7 @@
 use native.Mathlib.Omega.{arith}
 use mathlib.Core.Path.{refl}
 use Rattle.seek.proofs.Steps.{held_in_lem, short, fifth, sum_fits}
-use Rattle.seek.proofs.search.with_fifth.Goals as goal
+use Rattle.seek.proofs.search.Search.with_fifth.Goals as goal
 
 pub overflow_add-sum : goal.overflow_add-sum
 overflow_add-sum c =

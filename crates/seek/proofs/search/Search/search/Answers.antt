@@ -6,33 +6,33 @@ use Rattle.seek.specs.InnerTest.{value_at, Allowed, Joins}
 use Rattle.seek.specs.InnerSearch.{key, Tried}
 use Rattle.seek.proofs.Digits.{test_in, test_out}
 use Rattle.seek.proofs.Steps.{held_in_lem, starts, short, passes_over, more, joins, back, out-most, out-fewer, out, out-less, finish, sum_fits, skip_less, join_less}
-use Rattle.seek.proofs.search.search.Goals.{then-may_join, else-may_join, then-members-eq-STEPPED, else-members-eq-STEPPED, else-members-lt-STEPPED-via-then-members-lt-STEPPED+else-at-held, else-members-lt-STEPPED-via-else-members-lt-STEPPED}
-use Rattle.seek.proofs.search.search.Goals as goal
+use Rattle.seek.proofs.search.Search.search.Goals.{then-may_join, else-may_join, then-members-eq-STEPPED, else-members-eq-STEPPED, else-members-lt-STEPPED-via-then-members-lt-STEPPED+else-at-self, else-members-lt-STEPPED-via-else-members-lt-STEPPED}
+use Rattle.seek.proofs.search.Search.search.Goals as goal
 
 pub sets-init : goal.sets-init
 sets-init c =
-    let g = c.args in
+    let g = c.args.self.now in
     let s = starts {test = g.test} {clash = value_at g.clashes.now} {score = value_at g.scores.now} {held = g.held} in
     record { count = s.0; stands = s.1 }
 
 pub overflow_add-sum : goal.overflow_add-sum
 overflow_add-sum c = omega (arith, sum_fits c.requires c.sets.invariant.stands c.sets.at)
 
-pub sets-smaller-then-at-held : goal.sets-smaller-then-at-held
-sets-smaller-then-at-held c =
-    let low = c.if-at-held.true in
+pub sets-smaller-then-at-self : goal.sets-smaller-then-at-self
+sets-smaller-then-at-self c =
+    let low = c.if-at-self.true in
     let most = c.requires.few in
     elim c.if-may_join.branch [
       | then-may_join v ↦ join_less c.sets.at c.sets.set (omega arith) c.sets.invariant.stands.place.small v.set-is
       | else-may_join v ↦ rw v.set-is (skip_less c.sets.at c.sets.set (omega arith))
     ]
 
-pub sets-preserved-then-at-held : goal.sets-preserved-then-at-held
-sets-preserved-then-at-held c =
-    let g = c.args in
+pub sets-preserved-then-at-self : goal.sets-preserved-then-at-self
+sets-preserved-then-at-self c =
+    let g = c.args.self.now in
     let s = c.sets in
     let w = held_in_lem c.requires in
-    let low = c.if-at-held.true in
+    let low = c.if-at-self.true in
     let most = c.requires.few in
     elim c.if-may_join.branch [
       | then-may_join v ↦
@@ -50,14 +50,14 @@ sets-preserved-then-at-held c =
 
 pub back-init : goal.back-init
 back-init c =
-    let g = c.args in
+    let g = c.args.self.now in
     let t = c.sets in
     let s = t.invariant.stands in
     let done : ((ones t.set ≡ 3) → ⊥) → Tried (Allowed g.test (value_at g.clashes.now)) (value_at g.scores.now) (key most_results t.set) t.best =
     λ n.
     short (held_in_lem c.requires) s
     (elim c.else-members-lt-STEPPED.branch [
-      | else-members-lt-STEPPED-via-then-members-lt-STEPPED+else-at-held v ↦ omega arith
+      | else-members-lt-STEPPED-via-then-members-lt-STEPPED+else-at-self v ↦ omega arith
       | else-members-lt-STEPPED-via-else-members-lt-STEPPED v ↦ let i = t.invariant.count in absurd (n (omega arith))
     ])
     in record {

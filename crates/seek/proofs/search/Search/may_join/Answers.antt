@@ -8,7 +8,7 @@ use Rattle.seek.specs.declared.search.Test.{Test}
 use Rattle.seek.specs.Sets.{In}
 use Rattle.seek.specs.InnerTest.{value_at, MayJoin}
 use Rattle.seek.proofs.Digits.{test_in, test_not, meets, no_meet, in_lt}
-use Rattle.seek.proofs.search.may_join.Goals as goal
+use Rattle.seek.proofs.search.Search.may_join.Goals as goal
 
 -- a kept result that clashes with no member joins; where it clashes with one, no allowed set has both
 by_members : (test : Test) (clash : ℕ → ℕ) (set i : ℕ) → set < 2 ^ i → In i test.kept → MayJoin test clash set i (eqb (bit_and set (clash i)) 0)
@@ -21,10 +21,10 @@ by_members test clash set i small k = go (eqb (bit_and set (clash i)) 0) refl
         let x = meets i set (clash i) small (eqb-false _ _ z) in
         a.apart i x.0 (in_lt i set x.0 small x.1.0) p (m x.0 x.1.0) x.1.1
 
-pub returns-then-test-i-eq0 : goal.returns-then-test-i-eq0
-returns-then-test-i-eq0 c =
-    λ t a m p. test_not _ _ c.requires.few c.if-test-i-eq0.true (a.kept _ p)
+pub returns-then-self-i-eq0 : goal.returns-then-self-i-eq0
+returns-then-self-i-eq0 c =
+    λ t a m p. test_not _ _ c.requires.few c.if-self-i-eq0.true (a.kept _ p)
 
 pub returns : goal.returns
 returns c =
-    by_members c.args.test (value_at c.args.clashes.now) c.args.set c.args.i c.requires.small (test_in c.args.test.kept c.args.i c.requires.few c.if-test-i-eq0.false)
+    by_members c.args.self.now.test (value_at c.args.self.now.clashes.now) c.args.set c.args.i c.requires.small (test_in c.args.self.now.test.kept c.args.i c.requires.few c.if-self-i-eq0.false)
