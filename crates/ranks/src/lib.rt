@@ -9,14 +9,16 @@ use paper::refusal::Refusal;
 
 pub mod percent;
 mod search;
+mod sort;
 
-// Fills both buffers, sorting the values in the second first.
+// Fills both buffers, sorting the values in them first.
 fn fill(values: &[u32], ranks: &mut [u32], percentiles: &mut [u32])
     requires { Fillable values.now ranks.old percentiles.old }
     ensures { Ranked values.now (lent ranks.new percentiles.new) }
 {
+    ranks.copy_from_slice(values);
     percentiles.copy_from_slice(values);
-    percentiles.sort_unstable();
+    sort::sort(ranks, percentiles);
     search::count_each(values, percentiles, ranks);
     percent::percent_each(ranks, percentiles);
 }
