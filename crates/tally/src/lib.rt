@@ -1,7 +1,7 @@
 // The counts of aggregates, their sums, and the walk that turns them into bands and the remainder.
 #![tactic(auto)]
 
-ghost use Rattle.std.specs.Prelude.{◌≡◌, ◌≤◌, length, replicate};
+ghost use Rattle.std.specs.Prelude.{◌≡◌, ◌≤◌};
 ghost use Rattle.paper.specs.Limits.{most_tallied};
 ghost use Rattle.paper.specs.Lists.{sum_of};
 ghost use Rattle.tally.specs.Counts.{tally_of};
@@ -11,28 +11,14 @@ ghost use Rattle.tally.specs.InnerTally.{sums_to, steps_of, Rising, sums_from, b
 pub mod screening;
 pub mod search;
 
-// All 0.
-pub fn clear(counts: &mut [u32])
-    ensures { counts.new ≡ replicate (length counts.old) 0 }
-{
-    let mut t: usize = 0;
-    while t < counts.len() {
-        counts[t] = 0;
-        t += 1;
-    }
-}
-
 // In entry t the number of students with aggregate t, whatever the counts held before.
 pub fn count(aggregates: &[u32], counts: &mut [u32])
     requires { Countable aggregates.now counts.old }
     ensures { counts.new ≡ tally_of aggregates.now }
 {
-    clear(counts);
-    let mut i: usize = 0;
-    while i < aggregates.len() {
-        let a = aggregates[i] as usize;
-        counts[a] += 1;
-        i += 1;
+    counts.fill(0);
+    for aggregate in aggregates {
+        counts[*aggregate as usize] += 1;
     }
 }
 
@@ -42,11 +28,9 @@ pub fn sum_up(counts: &mut [u32])
     ensures { counts.new ≡ sums_to counts.old }
 {
     let mut sum: u32 = 0;
-    let mut t: usize = 0;
-    while t < counts.len() {
+    for t in 0..counts.len() {
         sum += counts[t];
         counts[t] = sum;
-        t += 1;
     }
 }
 
@@ -56,12 +40,10 @@ pub fn take_apart(sums: &mut [u32])
     ensures { sums.new ≡ steps_of sums.old }
 {
     let mut below: u32 = 0;
-    let mut t: usize = 0;
-    while t < sums.len() {
+    for t in 0..sums.len() {
         let sum = sums[t];
         sums[t] = sum - below;
         below = sum;
-        t += 1;
     }
 }
 
@@ -74,9 +56,7 @@ pub fn walk(table: &[u32], population: u32, counts: &mut [u32]) -> usize
     let mut reached = search::top(table, population);
     let mut c: u32 = 0;
     let mut remainder: usize = 0;
-    let mut t = counts.len();
-    while 0 < t {
-        t -= 1;
+    for t in (0..counts.len()).rev() {
         let here = counts[t];
         c += here;
         reached = search::go_on(table, population, c, reached);

@@ -1,36 +1,34 @@
 // What refuses Y and a participation table, and aggregates.
 ghost use Rattle.std.specs.Prelude.{◌≡◌};
 ghost use Rattle.paper.specs.Rulings.{judged};
-ghost use Rattle.paper.specs.Screening.{ruled};
+ghost use Rattle.paper.specs.Promises.{said};
 ghost use Rattle.tally.specs.Rules.{table_rules, aggregate_rules};
 
 use paper::limits::{MOST_AGGREGATE, MOST_ENTRY, MOST_POPULATION};
 use paper::refusal::Refusal;
-use paper::screening::Verdict;
-use paper::widening::wide32;
 use paper::{bounds, ranges};
 
 // 9 and 13: Y and the table's entries.
-pub fn judge_table(table: &[u32], population: u32) -> Verdict
-    ensures { ruled result ≡ judged (table_rules table.now population) tt }
+pub fn judge_table(table: &[u32], population: u32) -> Result<(), Refusal>
+    ensures { said result ≡ judged (table_rules table.now population) tt }
 {
-    if !ranges::within(1, MOST_POPULATION, wide32(population)) {
-        return Verdict::Refused(Refusal::WrongPopulation(0));
+    if !ranges::within(1, MOST_POPULATION, u64::from(population)) {
+        return Err(Refusal::WrongPopulation(0));
     }
     let entry = bounds::first_over(table, MOST_ENTRY);
     if entry < table.len() {
-        return Verdict::Refused(Refusal::WrongEntry(entry));
+        return Err(Refusal::WrongEntry(entry));
     }
-    Verdict::Clear
+    Ok(())
 }
 
 // 12: the aggregates.
-pub fn judge_aggregates(aggregates: &[u32]) -> Verdict
-    ensures { ruled result ≡ judged (aggregate_rules aggregates.now) tt }
+pub fn judge_aggregates(aggregates: &[u32]) -> Result<(), Refusal>
+    ensures { said result ≡ judged (aggregate_rules aggregates.now) tt }
 {
     let aggregate = bounds::first_over(aggregates, MOST_AGGREGATE);
     if aggregate < aggregates.len() {
-        return Verdict::Refused(Refusal::WrongAggregate(aggregate));
+        return Err(Refusal::WrongAggregate(aggregate));
     }
-    Verdict::Clear
+    Ok(())
 }

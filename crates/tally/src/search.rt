@@ -8,7 +8,6 @@ ghost use Rattle.tally.specs.InnerSearch.{Stands, SearchAt, Reaches};
 
 use paper::limits::{BAND_COUNT, TOP_BAND};
 use paper::units::MILLIONTHS;
-use paper::widening::wide32;
 
 // One place, where places are Y·F(k).
 const ONE_PLACE: u64 = BAND_COUNT as u64 * MILLIONTHS;
@@ -26,7 +25,7 @@ fn places_of(population: u32, sum: u64) -> u64
     requires { (population ≤ most_population) × (sum ≤ band_count * most_entry) }
     ensures { result ≡ population * sum }
 {
-    wide32(population) * sum
+    u64::from(population) * sum
 }
 
 // The top band, where a search begins.
@@ -34,7 +33,7 @@ pub fn top(table: &[u32], population: u32) -> Reached
     requires { Sized table.now × (population ≤ most_population) }
     ensures { (result.band ≡ top_band) × Stands table.now population result.band result.sum result.places }
 {
-    let sum = wide32(table[TOP_BAND]);
+    let sum = u64::from(table[TOP_BAND]);
     Reached {
         band: TOP_BAND,
         sum,
@@ -46,7 +45,7 @@ pub fn top(table: &[u32], population: u32) -> Reached
 fn fits(c: u32, places: u64) -> bool
     ensures { result ≡ one_place * c ≤? places }
 {
-    ONE_PLACE * wide32(c) <= places
+    ONE_PLACE * u64::from(c) <= places
 }
 
 // Goes on from a band: the first from there down whose places reach c students, or 0.
@@ -54,18 +53,12 @@ pub fn highest(table: &[u32], population: u32, c: u32, from: Reached) -> Reached
     requires { SearchAt table.now population c from.band from.sum from.places }
     ensures { Reaches table.now population c result.band result.sum result.places }
 {
-    let mut k = from.band;
+    let mut band = from.band;
     let mut sum = from.sum;
-    let band = loop {
-        if k == 0 {
-            break 0;
-        }
-        if fits(c, places_of(population, sum)) {
-            break k;
-        }
-        k -= 1;
-        sum += wide32(table[k]);
-    };
+    while 0 < band && !fits(c, places_of(population, sum)) {
+        band -= 1;
+        sum += u64::from(table[band]);
+    }
     Reached {
         band,
         sum,

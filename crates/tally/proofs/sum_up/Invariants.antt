@@ -1,11 +1,6 @@
-use Prim.Native.Nat.{◌-◌}
-use lib.ListN.{length}
 use Rattle.tally.proofs.Turns.{Summed}
 use Rattle.tally.proofs.sum_up.Given as goal
 
 -- below t the entries are sums, the last of them at hand; from t on they are counts
 abbrev pub invariant-loop-t : goal.invariant-loop-t
 invariant-loop-t l = Summed l.initial.counts l.t l.counts l.sum
-
-abbrev pub decreases-loop-t : goal.decreases-loop-t
-decreases-loop-t l = length l.initial.counts - l.t

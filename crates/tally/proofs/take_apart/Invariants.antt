@@ -1,11 +1,6 @@
-use Prim.Native.Nat.{◌-◌}
-use lib.ListN.{length}
 use Rattle.tally.proofs.Turns.{Parted}
 use Rattle.tally.proofs.take_apart.Given as goal
 
 -- below t the entries are taken apart, the sum before t at hand; from t on they are sums
 abbrev pub invariant-loop-t : goal.invariant-loop-t
 invariant-loop-t l = Parted l.initial.sums l.t l.sums l.below
-
-abbrev pub decreases-loop-t : goal.decreases-loop-t
-decreases-loop-t l = length l.initial.sums - l.t

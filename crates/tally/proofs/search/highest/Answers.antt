@@ -2,32 +2,28 @@ use native.Mathlib.Omega.{arith}
 use mathlib.Core.Path.{sym, ◌∙◌}
 use Rattle.tally.proofs.Reaching.{search_sum, sum-most, search_down, search_bottom, search_fits}
 use Rattle.tally.proofs.search.highest.Goals as goal
-use Rattle.tally.proofs.search.highest.Goals.{then-k-eq0, else-k-eq0+then-fits}
+use Rattle.tally.proofs.search.highest.Goals.{then-loop-band-test+else-not-fits, else-loop-band-test}
 
-pub loop-k-init : goal.loop-k-init
-loop-k-init c =
-    search_sum c.requires
+pub loop-band-init : goal.loop-band-init
+loop-band-init c = search_sum c.requires
 
 pub places_of-requires : goal.places_of-requires
-places_of-requires c =
-    (c.loop-k.invariant.people, sum-most c.loop-k.invariant)
+places_of-requires c = (c.requires.people, sum-most c.loop-band.invariant)
 
 pub overflow_add-sum : goal.overflow_add-sum
-overflow_add-sum c =
-    omega (arith, sum-most c.loop-k.invariant)
+overflow_add-sum c = omega (arith, sum-most c.loop-band.invariant)
 
-pub loop-k-preserved : goal.loop-k-preserved
-loop-k-preserved c =
-    search_down c.loop-k.invariant (omega arith) (rw c.places_of.ensures at (sym c.fits.ensures ∙ c.if-fits.false)) c.wide32-sum.ensures.0
+pub loop-band-preserved : goal.loop-band-preserved
+loop-band-preserved c =
+    search_down c.loop-band.invariant (omega arith) (rw c.places_of.ensures at (sym c.fits.ensures ∙ c.if-not-fits.true)) c.from-sum.ensures
 
 pub places_of-requires-2 : goal.places_of-requires-2
-places_of-requires-2 c =
-    (c.loop-k.invariant.people, sum-most c.loop-k.invariant)
+places_of-requires-2 c = (c.requires.people, sum-most c.loop-band.invariant)
 
 pub returns : goal.returns
 returns c =
-    let at = c.loop-k.invariant in
-    rw c.places_of-2.ensures (elim c.if-k-eq0.branch [
-      | then-k-eq0 w ↦ rw w.band-is (search_bottom at w.if-k-eq0.true)
-      | else-k-eq0+then-fits w ↦ rw w.band-is (search_fits at (rw w.places_of.ensures at (sym w.fits.ensures ∙ w.if-fits.true)))
+    let at = c.loop-band.invariant in
+    rw c.places_of-2.ensures (elim c.loop-band-test.branch [
+      | then-loop-band-test+else-not-fits w ↦ search_fits at (rw w.places_of.ensures at (sym w.fits.ensures ∙ w.if-not-fits.false))
+      | else-loop-band-test w ↦ search_bottom at (omega arith)
     ])

@@ -2,9 +2,9 @@ use Prim.Native.Nat.{◌*◌}
 use Rattle.tally.specs.InnerSearch.{SearchAt}
 use Rattle.tally.proofs.search.highest.Given as goal
 
--- no band above k fits, and the sum is of the entries from k on
-abbrev pub invariant-loop-k : goal.invariant-loop-k
-invariant-loop-k l = SearchAt l.table l.population l.c l.k l.sum (l.population * l.sum)
+-- no band above it fits, and the sum is of the entries from it on
+abbrev pub invariant-loop-band : goal.invariant-loop-band
+invariant-loop-band l = SearchAt l.table l.population l.c l.band l.sum (l.population * l.sum)
 
-abbrev pub decreases-loop-k : goal.decreases-loop-k
-decreases-loop-k l = l.k
+abbrev pub decreases-loop-band : goal.decreases-loop-band
+decreases-loop-band l = l.band

@@ -4,4 +4,4 @@ use Rattle.tally.proofs.search.top.Goals as goal
 
 pub returns : goal.returns
 returns c =
-    (refl, top_stands c.requires.0 c.wide32-sum.ensures.0 c.places_of.ensures)
+    (refl, top_stands c.requires.0 c.from-sum.ensures c.places_of.ensures)
