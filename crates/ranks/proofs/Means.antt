@@ -5,7 +5,7 @@ use mathlib.Core.Path.{sym, ◌∙◌}
 use mathlib.Core.List.{List}
 use Rattle.ranks.specs.Promise.{Lent, Ranked, Promise}
 use Rattle.ranks.specs.Meaning.{Meant}
-use Rattle.ranks.specs.declared.Answer.TheVariants.{Accepted}
+use Rattle.std.proofs.Common.{Ok}
 use Rattle.ranks.proofs.Meaning.{rank-least, rank_most, rank-ties, rank_rises, percentile-nearest}
 
 -- ranks and percentiles as they are defined do
@@ -22,5 +22,5 @@ ranked-means values after w =
     }
 
 -- and an answer that accepts says that they are filled in
-pub means : (values : List ℕ) (before after : Lent) → Promise values before Accepted after → Meant values after
+pub means : (values : List ℕ) (before after : Lent) → Promise values before (Ok tt) after → Meant values after
 means values before after h = ranked-means values after h.leaves

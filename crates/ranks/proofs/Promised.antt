@@ -2,30 +2,23 @@
 use Prim.Native.Nat.{ℕ, ◌<◌, ◌≤◌}
 use native.Mathlib.Omega.{arith}
 use mathlib.Core.Path.{◌≡◌, refl, ap, ◌∙◌}
+use Rattle.std.proofs.Common.{Result}
 use mathlib.Core.List.{List}
 use lib.ListN.{length, get_or}
 use borrow.Author.Tests.{le-ltb, eq-eqb}
 use Rattle.paper.specs.Limits.{most_values}
 use Rattle.paper.specs.Lists.{listed}
 use Rattle.paper.specs.Rulings.{accepted}
-use Rattle.paper.specs.Promises.{Tells, Owes}
+use Rattle.paper.specs.Promises.{answer, Owes}
+use Rattle.paper.specs.declared.refusal.Refusal.{Refusal}
 use Rattle.paper.proofs.Listing.{length-listed, at-list, is-listed}
 use Rattle.paper.proofs.Promised as every
-use Rattle.paper.proofs.Ruled.{refusal-fault, tabled}
+use Rattle.paper.proofs.Ruled.{tabled}
+use Rattle.paper.proofs.Said.{tells}
 use Rattle.ranks.specs.Ranking.{at_most, rank, percentile, ranks_of, percentiles_of}
-use Rattle.ranks.specs.Promise.{Lent, lent, said, rank_rules, ruling, Ranked, Promise, ranked, answer, left}
+use Rattle.ranks.specs.Promise.{Lent, lent, rank_rules, ruling, Ranked, Promise, ranked, left}
 use Rattle.ranks.specs.Inner.{SameCounts}
-use Rattle.ranks.specs.declared.Answer.{Answer}
-use Rattle.ranks.specs.declared.Answer.TheVariants.{Accepted, Refused}
 use Rattle.ranks.proofs.Counting.{at-within}
-
--- what is said tells the answer
-pub tells : Tells said (λ u. Accepted) Refused
-tells = record { accepting = λ u. refl; refusing = λ x. refl; told = told }
-  where
-    told : (r : Answer) → answer (said r) ≡ r
-    told Accepted = refl
-    told (Refused x) = ap Refused (refusal-fault x)
 
 -- the computed ranks and percentiles are those of the values, and no others are
 pub computed : (values : List ℕ) → Ranked values (ranked values)
@@ -56,11 +49,11 @@ module _ (values : List ℕ) (before : Lent) where
   meets = every.meets tells every.rules_is (owes values before) (tabled (rank_rules values before) tt (λ e. refl, (λ e. refl, (λ e. refl, tt))))
 
   -- and no others
-  pub only : {r : Answer} {b : Lent} → Promise values before r b → let o = ruling values before in (r ≡ answer o) × (b ≡ left values before o)
+  pub only : {r : Result (Unit {0}) Refusal} {b : Lent} → Promise values before r b → let o = ruling values before in (r ≡ answer o) × (b ≡ left values before o)
   only = every.only tells every.rules_is (owes values before)
 
   -- two permitted results are equal
-  pub determined : {r s : Answer} {b c : Lent} → Promise values before r b → Promise values before s c → (r ≡ s) × (b ≡ c)
+  pub determined : {r s : Result (Unit {0}) Refusal} {b c : Lent} → Promise values before r b → Promise values before s c → (r ≡ s) × (b ≡ c)
   determined = every.determined tells every.rules_is (owes values before)
 
 -- what no rule refuses is accepted, whatever the values

@@ -1,13 +1,11 @@
 -- What the ranking promises, for every input.
-use Rattle.std.specs.Prelude.{ℕ, ◌<◌, ◌≡◌, List, [], ◌∷◌, length, get_or}
+use Rattle.std.specs.Prelude.{ℕ, ◌<◌, ◌≡◌, Result, List, [], ◌∷◌, length, get_or}
 use Rattle.paper.specs.Limits.{most_values}
 use Rattle.paper.specs.Words.{◌<?◌, ◌≠?◌}
-use Rattle.paper.specs.Rulings.{Outcome, accepted, refused, Rule, ◌⇒◌, ◌at◌, judged}
-use Rattle.paper.specs.Refusals.{fault}
-use Rattle.paper.specs.Promises.{Promised, Is, answered, filled}
+use Rattle.paper.specs.Rulings.{Outcome, Rule, ◌⇒◌, ◌at◌, judged}
+use Rattle.paper.specs.Promises.{said, Promised, Is, filled}
+use Rattle.paper.specs.declared.refusal.Refusal.{Refusal}
 use Rattle.ranks.specs.Ranking.{rank, percentile, ranks_of, percentiles_of}
-use Rattle.ranks.specs.declared.Answer.{Answer}
-use Rattle.ranks.specs.declared.Answer.TheVariants.{Accepted, Refused}
 
 -- the content of the two lent buffers
 pub record Lent : Type 0 where
@@ -16,11 +14,6 @@ pub record Lent : Type 0 where
 
 abbrev pub lent : List ℕ → List ℕ → Lent
 lent ranks percentiles = record { ranks = ranks; percentiles = percentiles }
-
--- accepted, or the paper's number and place
-abbrev pub said : Answer → Outcome (Unit {0})
-said Accepted = accepted tt
-said (Refused x) = refused (fault x)
 
 -- 2: over 100000 values; 11: either buffer of another length
 abbrev pub rank_rules : List ℕ → Lent → List Rule
@@ -41,15 +34,12 @@ pub record Ranked (values : List ℕ) (after : Lent) : Type 0 where
   pub percentiles_are : (i : ℕ) → i < length values → get_or after.percentiles i 0 ≡ percentile (length values) (rank values i)
 
 -- values, the buffers before, the answer, the buffers after: accepted, they hold ranks and percentiles
-abbrev pub Promise : List ℕ → Lent → Answer → Lent → Type 0
+abbrev pub Promise : List ℕ → Lent → Result (Unit {0}) Refusal → Lent → Type 0
 Promise values before r after = Promised said (Is (ruling values before)) (λ u. Ranked values) before r after
 
--- the buffers that hold them, computed; the answer and the buffers of an outcome
+-- the buffers that hold them, computed; the buffers of an outcome
 abbrev pub ranked : List ℕ → Lent
 ranked values = lent (ranks_of values) (percentiles_of values)
-
-abbrev pub answer : Outcome (Unit {0}) → Answer
-answer = answered (λ u. Accepted) Refused
 
 abbrev pub left : List ℕ → Lent → Outcome (Unit {0}) → Lent
 left values = filled (λ u. ranked values)

@@ -9,40 +9,31 @@ use paper::refusal::Refusal;
 
 pub mod percent;
 mod search;
-mod sort;
 
-// Accepted, or what is wrong.
-#[derive(Clone, Copy)]
-pub enum Answer {
-    Accepted,
-    Refused(Refusal),
-}
-
-// Fills both buffers, sorting the values in them first.
+// Fills both buffers, sorting the values in the second first.
 fn fill(values: &[u32], ranks: &mut [u32], percentiles: &mut [u32])
     requires { Fillable values.now ranks.old percentiles.old }
     ensures { Ranked values.now (lent ranks.new percentiles.new) }
 {
-    sort::copy(values, ranks);
-    sort::copy(values, percentiles);
-    sort::sort(ranks, percentiles);
+    percentiles.copy_from_slice(values);
+    percentiles.sort_unstable();
     search::count_each(values, percentiles, ranks);
     percent::percent_each(ranks, percentiles);
 }
 
 // Fills a rank and a percentile for each value. A refusal writes nothing.
-pub fn ranks(values: &[u32], ranks: &mut [u32], percentiles: &mut [u32]) -> Answer
+pub fn ranks(values: &[u32], ranks: &mut [u32], percentiles: &mut [u32]) -> Result<(), Refusal>
     ensures { Promise values.now (lent ranks.old percentiles.old) result (lent ranks.new percentiles.new) }
 {
     if MOST_VALUES < values.len() {
-        return Answer::Refused(Refusal::TooMany(MOST_VALUES));
+        return Err(Refusal::TooMany(MOST_VALUES));
     }
     if ranks.len() != values.len() {
-        return Answer::Refused(Refusal::WrongLength);
+        return Err(Refusal::WrongLength);
     }
     if percentiles.len() != values.len() {
-        return Answer::Refused(Refusal::WrongLength);
+        return Err(Refusal::WrongLength);
     }
     fill(values, ranks, percentiles);
-    Answer::Accepted
+    Ok(())
 }

@@ -1,4 +1,3 @@
-use Prim.Native.Nat.{◌-◌}
 use lib.ListN.{length, get_or}
 use Rattle.ranks.specs.Ranking.{percentile}
 use Rattle.paper.proofs.Filling.{Filled}
@@ -7,6 +6,3 @@ use Rattle.ranks.proofs.percent.percent_each.Given as goal
 -- below i the percentiles are those of the ranks
 abbrev pub invariant-loop-i : goal.invariant-loop-i
 invariant-loop-i l = Filled (length l.ranks) (λ j. percentile (length l.ranks) (get_or l.ranks j 0)) l.i l.percentiles
-
-abbrev pub decreases-loop-i : goal.decreases-loop-i
-decreases-loop-i l = length l.ranks - l.i

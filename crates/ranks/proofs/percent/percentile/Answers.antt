@@ -12,4 +12,4 @@ returns-then-n-eq0 c =
 pub returns : goal.returns
 unfolding nearest
 returns c =
-    λ i. (2 * (100 * thousandths * c.wide32.ensures.0 i) + c.wide32-b.ensures.0 i) / (2 * c.wide32-b.ensures.0 i)
+    λ i. (2 * (100 * thousandths * c.from.ensures i) + c.from-b.ensures i) / (2 * c.from-b.ensures i)

@@ -1,4 +1,3 @@
-use Prim.Native.Nat.{◌-◌}
 use lib.ListN.{length, get_or}
 use Rattle.ranks.specs.Ranking.{at_most}
 use Rattle.paper.proofs.Filling.{Filled}
@@ -7,6 +6,3 @@ use Rattle.ranks.proofs.search.count_each.Given as goal
 -- below i the ranks are counted
 abbrev pub invariant-loop-i : goal.invariant-loop-i
 invariant-loop-i l = Filled (length l.values) (λ j. at_most l.sorted (get_or l.values j 0)) l.i l.ranks
-
-abbrev pub decreases-loop-i : goal.decreases-loop-i
-decreases-loop-i l = length l.values - l.i
