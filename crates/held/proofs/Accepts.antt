@@ -2,13 +2,12 @@
 use Prim.Native.Nat.{ℕ, ◌<◌, ◌≤◌}
 use mathlib.Core.Path.{◌≡◌, ap}
 use mathlib.Core.Bool.{not}
-use mathlib.Core.List.{List, [], ◌∷◌}
+use mathlib.Core.List.{List}
 use lib.ListN.{length, get_or}
 use borrow.Author.Tests.{lt-leb, le-ltb, ne_eqb}
 use Rattle.paper.specs.Limits.{slots, top_score, least_year, most_year}
 use Rattle.paper.specs.Words.{◌=?◌}
 use Rattle.paper.specs.Bytes.{byte, word, long}
-use Rattle.paper.specs.Rulings.{Rule, ◌⇒◌, ◌at◌}
 use Rattle.paper.proofs.Firsts.{none_has}
 use Rattle.paper.proofs.Ranging.{true_within}
 use Rattle.paper.proofs.Ruled.{Unbroken}
