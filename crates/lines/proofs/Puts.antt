@@ -1,10 +1,10 @@
 -- Texts put into a buffer one after another.
-use Prim.Native.Nat.{ℕ, suc, ◌+◌, ◌-◌, ◌≤◌, ◌<◌}
+use Prim.Native.Nat.{ℕ, ◌+◌, ◌-◌, ◌≤◌}
 use native.Mathlib.Omega.{arith}
-use mathlib.Core.Path.{◌≡◌, sym, ap, subst, ◌∙◌}
-use mathlib.Core.List.{List, [], ◌++◌, append_assoc}
-use lib.ListN.{length, get_or, take, drop, set, length-append, length-drop, length-replicate, take-append-drop}
-use lib.Seq.{length-take-le, paste, paste-suc}
+use mathlib.Core.Path.{◌≡◌, refl, sym, ap, ◌∙◌}
+use mathlib.Core.List.{List, [], ◌++◌}
+use lib.ListN.{length, take, drop, length-append, length-drop, take-append-drop}
+use lib.Seq.{length-take-le}
 use Rattle.paper.specs.Parts.{laid}
 use borrow.Rule.Slice.PartMut.{put_mid}
 use Rattle.paper.proofs.Parted.{laid_next, put-laid, laid-inside, length-laid}
@@ -25,35 +25,9 @@ put-more b t u p e f x y a c h =
       ends = m;
     }
 
--- a text copied byte by byte
-pub pasted : (d : List ℕ) (p : ℕ) (s : List ℕ) (i : ℕ) (t : List ℕ) → p + i < length d → i < length s → t ≡ paste d p s i → set t (p + i) (get_or s i 0) ≡ paste d p s (i + 1)
-pasted d p s i t k l e =
-    let z : suc i ≡ i + 1 = omega arith in
-    ap (λ (x : List ℕ). set x (p + i) (get_or s i 0)) e ∙ paste-suc d p s i 0 k l ∙ ap (paste d p s) z
-
-pub put-paste : (b t : List ℕ) (p : ℕ) (s : List ℕ) (n i : ℕ) → p + n ≤ length b → n ≤ length s → i ≡ n → t ≡ paste b p s i → Put b t p (p + n) (take n s)
-unfolding laid
-put-paste b t p s n i k l z e =
-    let m : n ≡ length (take n s) = sym (length-take-le n s l) in
-    record {
-      content = e ∙ ap (paste b p s) z ∙ append_assoc (take p b) (take n s) (drop (p + n) b) ∙ ap (λ (j : ℕ). take p b ++ (take n s ++ drop (p + j) b)) m;
-      ends = ap (λ (k : ℕ). p + k) m;
-    }
-
--- a line that shows a text has all its bytes, and it shows what it shows
-pub line_long : {line : Line} {text : List ℕ} → Shows line text → length line.bytes ≡ line_bytes
-line_long {line = line} {text = text} w =
-    let a : length (take line.length line.bytes) ≡ length text = ap length w.same in
-    let b : length (drop line.length line.bytes) ≡ line_bytes - length text = ap length w.rest ∙ length-replicate (line_bytes - length text) 0 in
-    let e : length line.bytes ≡ length (take line.length line.bytes) + length (drop line.length line.bytes) =
-    ap length (sym (take-append-drop line.length line.bytes)) ∙ length-append (take line.length line.bytes) (drop line.length line.bytes) in
-    omega (arith, w.fits)
-
-pub line_short : {line : Line} {text : List ℕ} → Shows line text → line.length ≤ line_bytes
-line_short w = omega (arith, w.fits, w.long)
-
-pub shows-own : {line : Line} {text : List ℕ} → Shows line text → Shows line (shown line)
-shows-own {line = line} w = subst (Shows line) (sym w.same) w
+-- a text copied into a part
+pub put-copied : (b : List ℕ) (p : ℕ) (x part : List ℕ) → part ≡ x → Put b (put_mid p (p + length x - p) b part) p (p + length x) x
+put-copied b p x part e = record { content = put-laid p (length x) b part (ap length e) ∙ ap (laid b p) e; ends = refl }
 
 -- no text at all
 pub put-none : (b : List ℕ) (p : ℕ) → p ≤ length b → Put b b p p []

@@ -9,11 +9,8 @@ pub fn append(text: &mut [u8], place: usize, line: Line) -> usize
     requires { Appendable line text.old place }
     ensures { Put text.old text.new place result (shown line) }
 {
-    let n = line.length;
-    let mut i = 0;
-    while i < n {
-        text[place + i] = line.bytes[i];
-        i += 1;
-    }
-    place + n
+    let bytes = line.as_bytes();
+    let end = place + bytes.len();
+    text[place..end].copy_from_slice(bytes);
+    end
 }

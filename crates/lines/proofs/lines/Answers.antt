@@ -1,46 +1,74 @@
+use Rattle.std.specs.Slice.Iter.{iter_rest}
+use Rattle.std.specs.Option.{unwrap_or}
 use Rattle.lines.proofs.Puts.{put-none, put-more, shown-short}
-use Rattle.lines.proofs.Lining.{far_none, far-all, far-more, after-most, one_more, none_more}
-use Rattle.lines.specs.Inner.{line_or, line_noted, after_noted, Put}
+use Rattle.lines.proofs.Lining.{far_none, far-all, far-more, eligible-adds, refused-adds}
+use Rattle.lines.specs.Inner.{line_noted, after_noted, Put}
 use Rattle.printed.specs.InnerCohorts.{columns}
-use Rattle.listing.specs.Lines.{student_line, shown}
-use lib.ListN.{get_or}
-use mathlib.Core.List.{[], ◌++◌}
+use Rattle.listing.specs.Lines.{student_line, refused_line, shown, line_bytes}
+use lib.ListN.{length, get_or}
+use mathlib.Core.Logic.{⊎_elim}
+use mathlib.Core.List.{[], ◌∷◌, ◌++◌}
 use mathlib.Core.Path.{◌≡◌, refl, sym, ap, subst, ◌∙◌}
-use Prim.Native.Nat.{ℕ}
+use Prim.Native.Nat.{ℕ, ◌+◌, ◌≤◌}
 use native.Mathlib.Omega.{arith}
 use Rattle.lines.proofs.lines.Goals as goal
 use Rattle.lines.proofs.lines.Goals.{then-number-eq0, else-number-eq0}
 
-pub loop-i-init : goal.loop-i-init
-loop-i-init c =
+pub loop-id-init : goal.loop-id-init
+loop-id-init c =
     let a = c.args in
-    (omega arith, omega arith, omega arith, refl, [], put-none a.text.now 0 (omega arith), far_none (columns a.aggregates.now a.ranks.now a.percentiles.now a.bands.now) a.ids.now a.numbers.now a.places.now)
+    let whole = c.into_iter-id-iterator.ensures.into_iter_gives in
+    let ids : iter_rest c.into_iter-id-iterator.result.a.a ≡ a.ids.now = ap (λ z. iter_rest z.a.a) whole ∙ ap (λ z. iter_rest z.a) c.zip-id-items.ensures.first ∙ ap iter_rest c.zip.ensures.first ∙ c.iter.ensures.rest in
+    let numbers : iter_rest c.into_iter-id-iterator.result.a.b ≡ a.numbers.now = ap (λ z. iter_rest z.a.b) whole ∙ ap (λ z. iter_rest z.b) c.zip-id-items.ensures.first ∙ c.zip.ensures.second.0 in
+    let places : iter_rest c.into_iter-id-iterator.result.b ≡ a.places.now = ap (λ z. iter_rest z.b) whole ∙ c.zip-id-items.ensures.second.0 in
+    rw (ids, numbers, places)
+    (c.requires.numbers_long, c.requires.places_long, omega arith, omega arith, refl, [], put-none a.text.now 0 (omega arith), far_none (columns a.aggregates.now a.ranks.now a.percentiles.now a.bands.now) a.ids.now a.numbers.now a.places.now)
 
-pub loop-i-preserved : goal.loop-i-preserved
-loop-i-preserved c =
+pub loop-id-preserved : goal.loop-id-preserved
+loop-id-preserved c =
     let a = c.args in
-    let p = c.requires in
-    let l = c.loop-i in
+    let l = c.loop-id in
+    let s = c.in-Some in
     let put = c.append-end in
-    let short = shown-short c.line_of-line.ensures in
-    -- one more is eligible after an eligible student
-    let counted : c.if-number-eq0.j ≡ after_noted l.j (get_or a.numbers.now l.i 0) =
-    elim c.if-number-eq0.branch [ then-number-eq0 w ↦ one_more _ _ _ w.if-number-eq0.true w.j-is | else-number-eq0 w ↦ none_more _ _ _ w.if-number-eq0.false w.j-is ] in
-    -- the line is that of what is noted
-    let line_is : shown c.line_of-line.result ≡ line_noted (columns a.aggregates.now a.ranks.now a.percentiles.now a.bands.now) l.j (get_or a.ids.now l.i 0) (get_or a.numbers.now l.i 0) (get_or a.places.now l.i 0) =
-    c.line_of-line.ensures.same
-    ∙ ap (λ (n : ℕ). line_or (student_line (get_or a.ids.now l.i 0) n (get_or a.ranks.now l.j 0) (get_or a.percentiles.now l.j 0) (get_or a.bands.now l.j 0)) (get_or a.ids.now l.i 0) (get_or a.numbers.now l.i 0) (get_or a.places.now l.i 0))
-    c.number_at.ensures in (
-      omega arith,
-      omega (arith, put.ensures.ends),
-      omega (arith, counted, after-most l.j (get_or a.numbers.now l.i 0)),
-      put.auto.text ∙ l.invariant.3,
-      l.invariant.4 ++ shown c.line_of-line.result,
-      put-more a.text.now l.text put.new.text 0 l.end put.result l.invariant.4 (shown c.line_of-line.result) l.invariant.5 put.ensures (omega arith),
-      far-more l.invariant.6 (shown c.line_of-line.result) c.if-number-eq0.j (omega (arith, p.numbers_long)) line_is counted,
+    let columns_are = columns a.aggregates.now a.ranks.now a.percentiles.now a.bands.now in
+    -- the student is the first of those who are left
+    let id = s.field-0-0-0.now in
+    let number = s.field-0-0-1.now in
+    let place = s.field-0-1.now in
+    let ids : iter_rest l.id-iterator.a.a ≡ id ∷ iter_rest c.next.new.self.a.a = s.ensures.steps.0.0 in
+    let numbers : iter_rest l.id-iterator.a.b ≡ number ∷ iter_rest c.next.new.self.a.b = s.ensures.steps.0.1 in
+    let places : iter_rest l.id-iterator.b ≡ place ∷ iter_rest c.next.new.self.b = s.ensures.steps.1 in
+    let added : (shown c.if-number-eq0.line ≡ line_noted columns_are l.j id number place) × (c.if-number-eq0.j ≡ after_noted l.j number) × (length (shown c.if-number-eq0.line) ≤ line_bytes) × (c.if-number-eq0.j ≤ l.j + 1) =
+    elim c.if-number-eq0.branch [
+      | then-number-eq0 w ↦
+          let adds = eligible-adds columns_are l.j id number place w.if-number-eq0.true in
+          let aggregate : w.unwrap_or-aggregate.result ≡ get_or a.aggregates.now l.j 0 = w.unwrap_or-aggregate.ensures ∙ ap (λ o. unwrap_or o 0) w.copied.ensures ∙ w.get.ensures.lookup.4 (omega arith) 0 in (
+            ap shown w.line-is ∙ w.student_line-line.ensures.same ∙ ap (λ (n : ℕ). student_line id n (get_or a.ranks.now l.j 0) (get_or a.percentiles.now l.j 0) (get_or a.bands.now l.j 0)) aggregate ∙ sym adds.0,
+            w.j-is ∙ sym adds.1,
+            omega (arith, ap length (ap shown w.line-is), shown-short w.student_line-line.ensures),
+            omega (arith, w.j-is),
+          )
+      | else-number-eq0 w ↦
+          let adds = refused-adds columns_are l.j id number place w.if-number-eq0.false in (
+            ap shown w.line-is ∙ w.refused_line-line.ensures.same ∙ ap (λ (n : ℕ). refused_line id number n) w.from.ensures ∙ sym adds.0,
+            w.j-is ∙ sym adds.1,
+            omega (arith, ap length (ap shown w.line-is), shown-short w.refused_line-line.ensures),
+            omega (arith, w.j-is),
+          )
+    ] in (
+      omega (arith, l.invariant.0, ap length ids, ap length numbers),
+      omega (arith, l.invariant.1, ap length ids, ap length places),
+      omega (arith, l.invariant.2, ap length ids, added.3),
+      omega (arith, l.invariant.3, ap length ids, put.ensures.ends, added.2),
+      put.auto.text ∙ l.invariant.4,
+      l.invariant.5 ++ shown c.if-number-eq0.line,
+      put-more a.text.now l.text put.new.text 0 l.end put.result l.invariant.5 (shown c.if-number-eq0.line) l.invariant.6 put.ensures (omega arith),
+      far-more l.invariant.7 id number place c.if-number-eq0.j (shown c.if-number-eq0.line) _ _ _ ids numbers places added.0 added.1,
     )
 
 pub returns : goal.returns
 returns c =
-    let l = c.loop-i in
-    (subst (Put c.args.text.now l.text 0 l.end) (sym (far-all l.invariant.6 (omega (arith, c.requires.numbers_long)))) l.invariant.5, omega arith)
+    let l = c.loop-id in
+    let ended : length (iter_rest l.id-iterator.a.b) ≡ 0 =
+    ⊎_elim (λ both. ⊎_elim (λ e. omega (arith, e.1.0, l.invariant.0)) (λ e. e.1.0) both.1) (λ e. omega (arith, e.1.0, l.invariant.0, l.invariant.1)) c.in-None.ensures.steps in
+    (subst (Put c.args.text.now l.text 0 l.end) (sym (far-all l.invariant.7 ended)) l.invariant.6, omega (arith, l.invariant.3))
