@@ -40,7 +40,7 @@ fn known_entry(catalogue: &[u8], i: usize) -> Entry
         kind: catalogue[at],
         strand: catalogue[at + 1],
         level: catalogue[at + 2],
-        identity: bytes::word_of(catalogue[at + 3], catalogue[at + 4]),
+        identity: u16::from_be_bytes([catalogue[at + 3], catalogue[at + 4]]),
     }
 }
 

@@ -6,7 +6,6 @@ ghost use Rattle.paper.specs.Refusals.{fault};
 ghost use Rattle.listing.specs.Lines.{Shows, cohort_line, student_line, refused_line, file_line};
 
 use crate::writing::Line;
-use paper::refusal;
 use paper::refusal::Refusal;
 
 pub mod writing;
@@ -56,5 +55,5 @@ pub fn refused_line(id: u32, number: u8, place: usize) -> Line
 pub fn file_line(refusal: Refusal) -> Line
     ensures { Shows result (file_line (number_of (fault refusal)) (place_of (fault refusal))) }
 {
-    Line::new().refusal(refusal::number(refusal), refusal::place(refusal))
+    Line::new().refusal(refusal.number(), refusal.place())
 }

@@ -9,7 +9,6 @@ ghost use Rattle.printed.specs.Report.{outcome, after_one};
 ghost use Rattle.outcomes.specs.Inner.{outcome_at, joined, Collectable, Collected};
 
 use paper::limits::RESULT_BYTES;
-use paper::refusal;
 use paper::refusal::Refusal;
 use sets::BestSet;
 
@@ -35,7 +34,7 @@ fn refusal_in(answer: Result<BestSet, Refusal>) -> (u8, usize)
 {
     match answer {
         Ok(_) => (0, 0),
-        Err(x) => (refusal::number(x), refusal::place(x)),
+        Err(x) => (x.number(), x.place()),
     }
 }
 

@@ -4,7 +4,6 @@ ghost use Rattle.results.specs.Results.{held_in, result_of, subject_of, year_of}
 
 use catalogue::entries;
 use catalogue::entries::Entry;
-use paper::bytes;
 use paper::limits::RESULT_BYTES;
 
 // A result, with the entry of its subject.
@@ -40,7 +39,7 @@ pub fn subject_at(results: &[u8], i: usize) -> u16
     ensures { result ≡ subject_of results.now i }
 {
     let at = RESULT_BYTES * i;
-    bytes::word_of(results[at], results[at + 1])
+    u16::from_be_bytes([results[at], results[at + 1]])
 }
 
 #[tactic(auto, unfolding(paper::specs::Bytes::word))]
@@ -49,5 +48,5 @@ pub fn year_at(results: &[u8], i: usize) -> u16
     ensures { result ≡ year_of results.now i }
 {
     let at = RESULT_BYTES * i;
-    bytes::word_of(results[at + 4], results[at + 5])
+    u16::from_be_bytes([results[at + 4], results[at + 5]])
 }

@@ -8,7 +8,7 @@ ghost use Rattle.scores.specs.Promise.{looked};
 
 use catalogue::kinds::Kind;
 use paper::limits::{MISSING, ROW_BYTES, SLOT_BYTES, SLOTS, TOP_SCORE};
-use paper::{bytes, ranges};
+use paper::ranges;
 
 // A raw result: the slot that is asked for. 1 to 100 have a slot; that of another number is missing.
 #[derive(Clone, Copy)]
@@ -74,9 +74,7 @@ fn held(table: &[u8], at: usize) -> u32
     requires { at + slot_bytes ≤ length table.now }
     ensures { result ≡ long table.now at }
 {
-    let high = bytes::word_of(table[at], table[at + 1]);
-    let low = bytes::word_of(table[at + 2], table[at + 3]);
-    bytes::long_of(high, low)
+    u32::from_be_bytes([table[at], table[at + 1], table[at + 2], table[at + 3]])
 }
 
 // What the number in a slot says.

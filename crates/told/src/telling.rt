@@ -3,7 +3,6 @@ ghost use Rattle.std.specs.Prelude.{◌≡◌};
 ghost use Rattle.paper.specs.Promises.{said};
 ghost use Rattle.told.specs.Telling.{told, form};
 
-use paper::refusal;
 use paper::refusal::Refusal;
 
 // Accepted: both are 0. Refused: the refusal's number, which is not 0, and its place. It stands first in every struct that C gets, so
@@ -25,8 +24,8 @@ pub(crate) fn told<T: Copy>(answer: Result<T, Refusal>) -> Told
             place: 0,
         },
         Err(x) => Told {
-            refusal: u64::from(refusal::number(x)),
-            place: refusal::place(x) as u64,
+            refusal: u64::from(x.number()),
+            place: x.place() as u64,
         },
     }
 }
