@@ -5,6 +5,7 @@ use mathlib.Core.Path.{◌≡◌, sym, ◌∙◌}
 use mathlib.Core.List.{List}
 use lib.ListN.{length, get_or}
 use lib.Dec.{eqb}
+use Rattle.std.proofs.Common.{Ok}
 use Rattle.paper.specs.Limits.{band_count}
 use Rattle.paper.specs.Lists.{sum, count}
 use Rattle.paper.proofs.Ruled.{given-values}
@@ -13,7 +14,6 @@ use Rattle.tally.proofs.Counting.{count-one}
 use Rattle.placements.specs.Placing.{BestPlacement, remainder}
 use Rattle.placements.specs.Promise.{direct_rules, Promise, Lent, together_rules, TogetherPromise}
 use Rattle.placements.specs.Given.{Given, directly, ranked}
-use Rattle.placements.specs.declared.Answer.TheVariants.{Accepted}
 use Rattle.placements.proofs.Placed.{best-once, best-stable, keeps-totals}
 
 -- the bands are the best placement, and the remainder is the paper's
@@ -50,6 +50,6 @@ given-once aggregates table Y m n bands others a b =
 
 -- so the two entries agree wherever both accept
 pub agree : (aggregates table : List ℕ) (Y m n : ℕ) (before bands : List ℕ) (before' after : Lent)
-    → Promise aggregates table Y before (Accepted m) bands → TogetherPromise aggregates table Y before' (Accepted n) after → (m ≡ n) × (bands ≡ after.bands)
+    → Promise aggregates table Y before (Ok m) bands → TogetherPromise aggregates table Y before' (Ok n) after → (m ≡ n) × (bands ≡ after.bands)
 agree aggregates table Y m n before bands before' after a b =
     given-once aggregates table Y m n bands after.bands (directly before a) (ranked before' after.ranks after.percentiles after.counts b)

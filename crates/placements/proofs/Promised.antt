@@ -1,37 +1,30 @@
 -- The promises determine the answer and the buffers, and the computed ones meet them.
 use Prim.Native.Nat.{ℕ, ◌≤◌}
 use native.Mathlib.Omega.{arith}
-use mathlib.Core.Path.{◌≡◌, refl, ap}
+use mathlib.Core.Path.{◌≡◌, refl}
 use mathlib.Core.Bool.{false}
 use mathlib.Core.List.{List, ◌++◌}
 use lib.ListN.{length, get_or}
+use Rattle.std.proofs.Common.{Result}
 use borrow.Author.Tests.{ltb-false, le-ltb, eqb-true, eq-eqb, not-false}
 use Rattle.paper.specs.Limits.{most_aggregate, most_population, band_count, most_entry, most_students, most_tallied, tally_count}
-use Rattle.paper.specs.Promises.{Tells, Owes}
+use Rattle.paper.specs.Promises.{answer, Owes}
+use Rattle.paper.specs.declared.refusal.Refusal.{Refusal}
 use Rattle.paper.proofs.Promised as every
 use Rattle.paper.specs.Lists.{over, first_over, some_over}
 use Rattle.paper.specs.Rulings.{accepted}
 use Rattle.paper.proofs.Firsts.{none_over, none_has}
 use Rattle.paper.proofs.Ranging.{within-true, true_within}
-use Rattle.paper.proofs.Ruled.{refusal-fault, Unbroken, unbroken_parts, Tabled, tabled}
+use Rattle.paper.proofs.Said.{tells}
+use Rattle.paper.proofs.Ruled.{Unbroken, unbroken_parts, Tabled, tabled}
 use Rattle.ranks.proofs.Promised.{computed, ranked-is}
 use Rattle.tally.specs.Counts.{tally_of}
 use Rattle.tally.proofs.Tallies.{tally_exists, tally_once}
 use Rattle.placements.specs.Placing.{BestPlacement, remainder}
 use Rattle.placements.specs.Bands.{bands_of}
-use Rattle.placements.specs.Promise.{said, size_rules, lent_rules, cohort_rules, direct_rules, ruling, Promise, Lent, lent, ranking, together_rules, together_ruling, Together, TogetherPromise, answer, left, together, together_left}
+use Rattle.placements.specs.Promise.{size_rules, lent_rules, cohort_rules, direct_rules, ruling, Promise, Lent, lent, ranking, together_rules, together_ruling, Together, TogetherPromise, left, together, together_left}
 use Rattle.placements.specs.InnerReady.{Ready, TogetherReady}
-use Rattle.placements.specs.declared.Answer.{Answer}
-use Rattle.placements.specs.declared.Answer.TheVariants.{Accepted, Refused}
 use Rattle.placements.proofs.Placed.{best-exists, best-once}
-
--- what is said tells the answer
-pub tells : Tells said Accepted Refused
-tells = record { accepting = λ n. refl; refusing = λ x. refl; told = told }
-  where
-    told : (r : Answer) → answer (said r) ≡ r
-    told (Accepted n) = refl
-    told (Refused x) = ap Refused (refusal-fault x)
 
 -- each rule gives a number and place of the paper's table
 direct_tabled : (aggregates table : List ℕ) (Y bands : ℕ) → Tabled (direct_rules aggregates table Y bands)
@@ -49,10 +42,10 @@ module _ (aggregates table : List ℕ) (Y : ℕ) (before : List ℕ) where
   pub meets : let o = ruling aggregates table Y before in Promise aggregates table Y before (answer o) (left aggregates table Y before o)
   meets = every.meets tells every.rules_is owes (tabled (direct_rules aggregates table Y (length before)) (remainder aggregates table Y) (direct_tabled aggregates table Y (length before)))
 
-  pub only : {r : Answer} {b : List ℕ} → Promise aggregates table Y before r b → let o = ruling aggregates table Y before in (r ≡ answer o) × (b ≡ left aggregates table Y before o)
+  pub only : {r : Result ℕ Refusal} {b : List ℕ} → Promise aggregates table Y before r b → let o = ruling aggregates table Y before in (r ≡ answer o) × (b ≡ left aggregates table Y before o)
   only = every.only tells every.rules_is owes
 
-  pub determined : {r s : Answer} {b c : List ℕ} → Promise aggregates table Y before r b → Promise aggregates table Y before s c → (r ≡ s) × (b ≡ c)
+  pub determined : {r s : Result ℕ Refusal} {b c : List ℕ} → Promise aggregates table Y before r b → Promise aggregates table Y before s c → (r ≡ s) × (b ≡ c)
   determined = every.determined tells every.rules_is owes
 
 -- the buffers filled with what is computed hold what is promised, and no others do
@@ -80,11 +73,11 @@ module _ (aggregates table : List ℕ) (Y : ℕ) (before : Lent) where
       every.meets tells every.rules_is together-owes
       (tabled (together_rules aggregates table Y ranks percentiles bands counts) (remainder aggregates table Y) (together-tabled aggregates table Y ranks percentiles bands counts))
 
-  pub together-only : {r : Answer} {b : Lent} → TogetherPromise aggregates table Y before r b
+  pub together-only : {r : Result ℕ Refusal} {b : Lent} → TogetherPromise aggregates table Y before r b
       → let o = together_ruling aggregates table Y before in (r ≡ answer o) × (b ≡ together_left aggregates table Y before o)
   together-only = every.only tells every.rules_is together-owes
 
-  pub together-determined : {r s : Answer} {b c : Lent} → TogetherPromise aggregates table Y before r b → TogetherPromise aggregates table Y before s c → (r ≡ s) × (b ≡ c)
+  pub together-determined : {r s : Result ℕ Refusal} {b c : Lent} → TogetherPromise aggregates table Y before r b → TogetherPromise aggregates table Y before s c → (r ≡ s) × (b ≡ c)
   together-determined = every.determined tells every.rules_is together-owes
 
 -- what the screening clears is ready to be placed

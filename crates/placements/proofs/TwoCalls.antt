@@ -13,16 +13,14 @@ use Rattle.paper.specs.declared.refusal.Refusal.{Refusal}
 use Rattle.paper.proofs.Ruled.{given-values}
 use Rattle.ranks.specs.Meaning.{Meant}
 use Rattle.ranks.specs.Promise as ranksSay
-use Rattle.ranks.specs.declared.Answer.TheVariants.{Accepted as Ranks}
-use Rattle.ranks.specs.declared.Answer.{Answer as RanksAnswer}
 use Rattle.ranks.proofs.Promised.{ranked-is}
 use Rattle.ranks.proofs.Means.{ranked-means}
 use Rattle.tally.proofs.Tallies.{tally_once}
 use Rattle.placements.specs.Placing.{Keeps, remainder}
-use Rattle.placements.specs.Promise.{said, cohort_rules, Lent, ranking, together_rules, together_ruling, TogetherPromise}
+use Rattle.placements.specs.Promise.{cohort_rules, Lent, ranking, together_rules, together_ruling, TogetherPromise}
 use Rattle.placements.specs.TwoCalls.{TallyLent, tally_lent, tally_rules, tally_ruling, TallyPromise, placing, then_ruled, two_ruling}
-use Rattle.placements.specs.declared.Answer.{Answer}
-use Rattle.placements.specs.declared.Answer.TheVariants.{Accepted, Refused}
+use Rattle.std.proofs.Common.{Result, Ok, Err}
+use Rattle.paper.specs.Promises.{said}
 use Rattle.placements.proofs.Placed.{best-once}
 
 -- its refusals are those of the two calls with the same buffers, the second made where the first accepts
@@ -54,32 +52,32 @@ module _ (aggregates table : List ℕ) (Y : ℕ) where
       (not (eqb (length before.percentiles) n)) (not (eqb (length before.counts) tally_count)) (cohort_rules aggregates table Y) (remainder aggregates table Y)
 
   -- so it says what they say
-  pub says-as_two : (before after : Lent) (first : ranksSay.Lent) (second : TallyLent) (r : Answer) (s : RanksAnswer) (t : Answer)
+  pub says-as_two : (before after : Lent) (first : ranksSay.Lent) (second : TallyLent) (r : Result ℕ Refusal) (s : Result (Unit {0}) Refusal) (t : Result ℕ Refusal)
       → TogetherPromise aggregates table Y before r after → ranksSay.Promise aggregates (ranking before) s first → TallyPromise aggregates table Y (placing before) t second
-      → said r ≡ then_ruled (ranksSay.said s) (said t)
+      → said r ≡ then_ruled (said s) (said t)
   says-as_two before after first second r s t h a b =
       h.says ∙ ruled-as_two before ∙ (λ i. then_ruled (sym a.says i) (sym b.says i))
 
   -- what it accepts and leaves is what each of the two promised, with the same buffers
-  pub as_two : (before after : Lent) (n : ℕ) → TogetherPromise aggregates table Y before (Accepted n) after
-      → ranksSay.Promise aggregates (ranking before) Ranks (ranking after) × TallyPromise aggregates table Y (placing before) (Accepted n) (placing after)
+  pub as_two : (before after : Lent) (n : ℕ) → TogetherPromise aggregates table Y before (Ok n) after
+      → ranksSay.Promise aggregates (ranking before) (Ok tt) (ranking after) × TallyPromise aggregates table Y (placing before) (Ok n) (placing after)
   as_two before after n h =
       let e = both-accept _ _ n (sym (h.says ∙ ruled-as_two before)) in
       (record { says = sym e.0; leaves = h.leaves.ranked }, record { says = sym e.1; leaves = record { best = h.leaves.best; tallied = h.leaves.tallied } })
 
   -- where it refuses and the first of the two accepts, the second refuses with the same number and place, and leaves its buffers as they were
-  pub refused-as_two : (before after : Lent) (x : Refusal) → TogetherPromise aggregates table Y before (Refused x) after → ranksSay.ruling aggregates (ranking before) ≡ accepted tt
-      → TallyPromise aggregates table Y (placing before) (Refused x) (placing after)
+  pub refused-as_two : (before after : Lent) (x : Refusal) → TogetherPromise aggregates table Y before (Err x) after → ranksSay.ruling aggregates (ranking before) ≡ accepted tt
+      → TallyPromise aggregates table Y (placing before) (Err x) (placing after)
   refused-as_two before after x h e =
       record { says = h.says ∙ ruled-as_two before ∙ (λ i. then_ruled (e i) (tally_ruling aggregates table Y (placing before))); leaves = ap placing h.leaves }
 
-  pub left-as_two : (before after : Lent) (second : TallyLent) (x y : Refusal) → TogetherPromise aggregates table Y before (Refused x) after
-      → TallyPromise aggregates table Y (placing before) (Refused y) second → placing after ≡ second
+  pub left-as_two : (before after : Lent) (second : TallyLent) (x y : Refusal) → TogetherPromise aggregates table Y before (Err x) after
+      → TallyPromise aggregates table Y (placing before) (Err y) second → placing after ≡ second
   left-as_two before after second x y h b = ap placing h.leaves ∙ sym b.leaves
 
   -- and where it accepts gives their ranks, percentiles, bands and remainder, and leaves their tally, whatever each was lent
   pub one-for_two : (before after : Lent) (first₀ first : ranksSay.Lent) (second₀ second : TallyLent) (m n : ℕ)
-      → TogetherPromise aggregates table Y before (Accepted m) after → ranksSay.Promise aggregates first₀ Ranks first → TallyPromise aggregates table Y second₀ (Accepted n) second
+      → TogetherPromise aggregates table Y before (Ok m) after → ranksSay.Promise aggregates first₀ (Ok tt) first → TallyPromise aggregates table Y second₀ (Ok n) second
       → (m ≡ n) × (ranking after ≡ first) × (placing after ≡ second)
   one-for_two before after first₀ first second₀ second m n h a b =
       let rules = together_rules aggregates table Y (length before.ranks) (length before.percentiles) (length before.bands) (length before.counts) in
@@ -93,11 +91,11 @@ module _ (aggregates table : List ℕ) (Y : ℕ) where
       )
 
   -- ranks are 1 to N, tied students share one, a higher aggregate has a higher, and percentiles are nearest, halves up
-  pub ranks-mean : (before after : Lent) (n : ℕ) → TogetherPromise aggregates table Y before (Accepted n) after → Meant aggregates (ranking after)
+  pub ranks-mean : (before after : Lent) (n : ℕ) → TogetherPromise aggregates table Y before (Ok n) after → Meant aggregates (ranking after)
   ranks-mean before after n h = ranked-means aggregates (ranking after) h.leaves.ranked
 
   -- and ranks and bands are of one list: the higher rank is in no lower band, and equal ranks are in one band
-  pub of-one_list : (before after : Lent) (n : ℕ) → TogetherPromise aggregates table Y before (Accepted n) after → (i j : ℕ) → i < length aggregates → j < length aggregates
+  pub of-one_list : (before after : Lent) (n : ℕ) → TogetherPromise aggregates table Y before (Ok n) after → (i j : ℕ) → i < length aggregates → j < length aggregates
       → (get_or after.ranks i 0 < get_or after.ranks j 0 → get_or after.bands i 0 ≤ get_or after.bands j 0)
       × (get_or after.ranks i 0 ≡ get_or after.ranks j 0 → get_or after.bands i 0 ≡ get_or after.bands j 0)
   of-one_list before after n h i j l k = (λ r. higher r (dec_lt a b) (dec_lt b a), λ r. equal r (dec_lt a b) (dec_lt b a))

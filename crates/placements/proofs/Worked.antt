@@ -10,6 +10,7 @@ use Rattle.paper.specs.Limits.{most_aggregate, tally_count}
 use Rattle.paper.specs.Lists.{sum, count, first, sum_of, listed, some_over}
 use Rattle.paper.specs.Rounding.{nearest}
 use Rattle.paper.specs.Rulings.{accepted, refused, ◌at◌}
+use Rattle.paper.specs.declared.refusal.Refusal.{Refusal}
 use Rattle.paper.specs.declared.refusal.Refusal.TheVariants.{WrongPopulation}
 use Rattle.paper.proofs.Promised.{rules_is, only-as}
 use Rattle.ranks.specs.Ranking.{ranks_of, percentiles_of}
@@ -22,10 +23,10 @@ use Rattle.placements.specs.Placing.{remainder}
 use Rattle.placements.specs.Bands.{bands_of}
 use Rattle.placements.specs.Promise.{ruling, Promise, Lent, together_ruling, TogetherPromise}
 use Rattle.placements.specs.Given.{LentFor}
-use Rattle.placements.specs.declared.Answer.{Answer}
-use Rattle.placements.specs.declared.Answer.TheVariants.{Accepted, Refused}
+use Rattle.std.proofs.Common.{Result, Ok, Err}
+use Rattle.paper.proofs.Said.{tells}
 use Rattle.placements.proofs.ByHand.{three, tied_below, bands, remainders, ranked, tallies, full-within, within}
-use Rattle.placements.proofs.Promised.{tells, owes, together-owes}
+use Rattle.placements.proofs.Promised.{owes, together-owes}
 
 -- Y=1, two different: both in 0.00
 both-none : bands_of (40000 ∷ 30000 ∷ []) full 1 ≡ 0 ∷ 0 ∷ []
@@ -51,21 +52,21 @@ tied-ruled before l = rw (l.ranks, l.percentiles, l.bands, eq-eqb (length before
 
 -- by direct count: no program that refuses them, writes no bands, puts all in 0.00, places the first alone, splits the tied or
 -- gives them the band of the first of them
-pub only-three : (a b c : ℕ) (r : Answer) (after : List ℕ) → Promise three full 2000 (a ∷ b ∷ c ∷ []) r after → (r ≡ Accepted 0) × (after ≡ 1998 ∷ 1998 ∷ 1997 ∷ [])
+pub only-three : (a b c : ℕ) (r : Result ℕ Refusal) (after : List ℕ) → Promise three full 2000 (a ∷ b ∷ c ∷ []) r after → (r ≡ Ok 0) × (after ≡ 1998 ∷ 1998 ∷ 1997 ∷ [])
 only-three a b c r after h =
     let o = only-as tells rules_is (owes three full 2000 (a ∷ b ∷ c ∷ [])) (three-ruled a b c) h in
     (o.0, o.1 ∙ bands.0)
 
 -- nor one that counts no remainder
-pub only_two : (a b : ℕ) (r : Answer) (after : List ℕ) → Promise (40000 ∷ 30000 ∷ []) full 1 (a ∷ b ∷ []) r after → (r ≡ Accepted 1) × (after ≡ 0 ∷ 0 ∷ [])
+pub only_two : (a b : ℕ) (r : Result ℕ Refusal) (after : List ℕ) → Promise (40000 ∷ 30000 ∷ []) full 1 (a ∷ b ∷ []) r after → (r ≡ Ok 1) × (after ≡ 0 ∷ 0 ∷ [])
 only_two a b r after h =
     let o = only-as tells rules_is (owes (40000 ∷ 30000 ∷ []) full 1 (a ∷ b ∷ [])) (two-ruled a b) h in
     (o.0, o.1 ∙ both-none)
 
 -- with the ranks: nor one that ranks the tied by their lower side, counts only the smaller, rounds a percentile down, writes ranks and no
 -- bands, or leaves an entry of the tally as a sum or as a band
-pub only-tied_together : (before : Lent) → LentFor 3 before → (r : Answer) (after : Lent) → TogetherPromise tied_below full 2000 before r after
-    → (r ≡ Accepted 0) × (after.ranks ≡ 3 ∷ 2 ∷ 2 ∷ []) × (after.percentiles ≡ 100000 ∷ 66667 ∷ 66667 ∷ []) × (after.bands ≡ 1999 ∷ 1997 ∷ 1997 ∷ [])
+pub only-tied_together : (before : Lent) → LentFor 3 before → (r : Result ℕ Refusal) (after : Lent) → TogetherPromise tied_below full 2000 before r after
+    → (r ≡ Ok 0) × (after.ranks ≡ 3 ∷ 2 ∷ 2 ∷ []) × (after.percentiles ≡ 100000 ∷ 66667 ∷ 66667 ∷ []) × (after.bands ≡ 1999 ∷ 1997 ∷ 1997 ∷ [])
     × (get_or after.counts 40000 0 ≡ 1) × (get_or after.counts 30000 0 ≡ 2) × (get_or after.counts 35000 0 ≡ 0)
 only-tied_together before l r after h =
     let o = only-as tells rules_is (together-owes tied_below full 2000 before) (tied-ruled before l) h in
@@ -96,8 +97,8 @@ ends-ruled : (before : Lent) → LentFor 2 before → together_ruling ends full 
 unfolding full
 ends-ruled before l = rw (l.ranks, l.percentiles, l.bands, eq-eqb (length before.counts) tally_count l.counts, full-within, ends-ranked.3) (ap accepted ends-ranked.2)
 
-pub only-ends_together : (before : Lent) → LentFor 2 before → (r : Answer) (after : Lent) → TogetherPromise ends full 1 before r after
-    → (r ≡ Accepted 1) × (after.ranks ≡ 2 ∷ 1 ∷ []) × (after.percentiles ≡ 100000 ∷ 50000 ∷ []) × (after.bands ≡ 0 ∷ 0 ∷ [])
+pub only-ends_together : (before : Lent) → LentFor 2 before → (r : Result ℕ Refusal) (after : Lent) → TogetherPromise ends full 1 before r after
+    → (r ≡ Ok 1) × (after.ranks ≡ 2 ∷ 1 ∷ []) × (after.percentiles ≡ 100000 ∷ 50000 ∷ []) × (after.bands ≡ 0 ∷ 0 ∷ [])
     × (get_or after.counts 50000 0 ≡ 1) × (get_or after.counts 0 0 ≡ 1) × (get_or after.counts 49999 0 ≡ 0) × (get_or after.counts 1 0 ≡ 0)
 only-ends_together before l r after h =
     let o = only-as tells rules_is (together-owes ends full 1 before) (ends-ruled before l) h in
@@ -121,9 +122,9 @@ zero_tied_ruled : (before : Lent) → LentFor 3 before → together_ruling tied_
 unfolding full
 zero_tied_ruled before l = rw (l.ranks, l.percentiles, l.bands, eq-eqb (length before.counts) tally_count l.counts) refl
 
-pub only-refused : (a b c : ℕ) (r : Answer) (after : List ℕ) → Promise three full 0 (a ∷ b ∷ c ∷ []) r after → (r ≡ Refused (WrongPopulation 0)) × (after ≡ a ∷ b ∷ c ∷ [])
+pub only-refused : (a b c : ℕ) (r : Result ℕ Refusal) (after : List ℕ) → Promise three full 0 (a ∷ b ∷ c ∷ []) r after → (r ≡ Err (WrongPopulation 0)) × (after ≡ a ∷ b ∷ c ∷ [])
 only-refused a b c r after h = only-as tells rules_is (owes three full 0 (a ∷ b ∷ c ∷ [])) (zero_ruled a b c) h
 
-pub only-refused_together : (before : Lent) → LentFor 3 before → (r : Answer) (after : Lent) → TogetherPromise tied_below full 0 before r after
-    → (r ≡ Refused (WrongPopulation 0)) × (after ≡ before)
+pub only-refused_together : (before : Lent) → LentFor 3 before → (r : Result ℕ Refusal) (after : Lent) → TogetherPromise tied_below full 0 before r after
+    → (r ≡ Err (WrongPopulation 0)) × (after ≡ before)
 only-refused_together before l r after h = only-as tells rules_is (together-owes tied_below full 0 before) (zero_tied_ruled before l) h

@@ -1,13 +1,12 @@
 -- What an accepted call of either entry gives, and buffers of the lengths that are asked.
-use Rattle.std.specs.Prelude.{ℕ, ◌≡◌, List, length}
+use Rattle.std.specs.Prelude.{ℕ, ◌≡◌, Ok, List, length}
 use Rattle.paper.specs.Limits.{tally_count}
 use Rattle.placements.specs.Promise.{Promise, Lent, lent, TogetherPromise}
-use Rattle.placements.specs.declared.Answer.TheVariants.{Accepted}
 
 -- the remainder n and the bands, by direct count or in one call with the ranks, whatever the lent buffers held before
 pub data Given (aggregates table : List ℕ) (Y n : ℕ) (bands : List ℕ) : Type 0 where
-  directly : (before : List ℕ) → Promise aggregates table Y before (Accepted n) bands → Given aggregates table Y n bands
-  ranked : (before : Lent) (ranks percentiles counts : List ℕ) → TogetherPromise aggregates table Y before (Accepted n) (lent ranks percentiles bands counts) → Given aggregates table Y n bands
+  directly : (before : List ℕ) → Promise aggregates table Y before (Ok n) bands → Given aggregates table Y n bands
+  ranked : (before : Lent) (ranks percentiles counts : List ℕ) → TogetherPromise aggregates table Y before (Ok n) (lent ranks percentiles bands counts) → Given aggregates table Y n bands
 
 -- lent to the call with the ranks: as many ranks, percentiles and bands as there are students, and 50001 counts
 pub record LentFor (students : ℕ) (before : Lent) : Type 0 where

@@ -1,23 +1,16 @@
 -- What the two entries promise, for every input.
-use Rattle.std.specs.Prelude.{ℕ, List, [], ◌∷◌, ◌++◌, length}
+use Rattle.std.specs.Prelude.{ℕ, Result, List, [], ◌∷◌, ◌++◌, length}
 use Rattle.paper.specs.Limits.{band_count, most_students, most_tallied, tally_count}
-use Rattle.paper.specs.Rulings.{Outcome, accepted, refused, Rule, ◌⇒◌, ◌at◌, judged}
-use Rattle.paper.specs.Refusals.{fault}
+use Rattle.paper.specs.Rulings.{Outcome, Rule, ◌⇒◌, ◌at◌, judged}
 use Rattle.paper.specs.Words.{◌<?◌, ◌≠?◌}
-use Rattle.paper.specs.Promises.{Promised, Is, answered, filled}
+use Rattle.paper.specs.Promises.{said, Promised, Is, filled}
+use Rattle.paper.specs.declared.refusal.Refusal.{Refusal}
 use Rattle.ranks.specs.Ranking.{ranks_of, percentiles_of}
 use Rattle.ranks.specs.Promise.{Ranked, Lent as RanksLent, lent as ranksLent}
 use Rattle.tally.specs.Counts.{Tallied, tally_of}
 use Rattle.tally.specs.Rules.{table_rules, aggregate_rules}
 use Rattle.placements.specs.Placing.{BestPlacement, remainder}
 use Rattle.placements.specs.Bands.{bands_of}
-use Rattle.placements.specs.declared.Answer.{Answer}
-use Rattle.placements.specs.declared.Answer.TheVariants.{Accepted, Refused}
-
--- the remainder, or the paper's number and place
-abbrev pub said : Answer → Outcome ℕ
-said (Accepted n) = accepted n
-said (Refused x) = refused (fault x)
 
 -- a limit, and how many students, entries of the table and lent bands there are
 -- 2: more students than the limit; 11: not 2000 entries, or not a band for each student
@@ -55,8 +48,8 @@ direct_rules aggregates table Y bands =
 abbrev pub ruling : List ℕ → List ℕ → ℕ → List ℕ → Outcome ℕ
 ruling aggregates table Y bands = judged (direct_rules aggregates table Y (length bands)) (remainder aggregates table Y)
 
--- aggregates, table, Y, the bands before, the answer, the bands after: accepted, they are the best placement
-abbrev pub Promise : List ℕ → List ℕ → ℕ → List ℕ → Answer → List ℕ → Type 0
+-- aggregates, table, Y, the bands before, the answer, the bands after: accepted with the remainder, they are the best placement
+abbrev pub Promise : List ℕ → List ℕ → ℕ → List ℕ → Result ℕ Refusal → List ℕ → Type 0
 Promise aggregates table Y before r after = Promised said (Is (ruling aggregates table Y before)) (λ n. BestPlacement aggregates table Y) before r after
 
 -- ranks and bands in one call, up to 100000 students: the content of the four lent buffers
@@ -90,13 +83,10 @@ pub record Together (aggregates table : List ℕ) (Y : ℕ) (after : Lent) : Typ
   pub tallied : Tallied aggregates after.counts
 
 -- aggregates, table, Y, the buffers before, the answer, the buffers after
-abbrev pub TogetherPromise : List ℕ → List ℕ → ℕ → Lent → Answer → Lent → Type 0
+abbrev pub TogetherPromise : List ℕ → List ℕ → ℕ → Lent → Result ℕ Refusal → Lent → Type 0
 TogetherPromise aggregates table Y before r after = Promised said (Is (together_ruling aggregates table Y before)) (λ n. Together aggregates table Y) before r after
 
--- the answer and the buffers of an outcome, computed
-abbrev pub answer : Outcome ℕ → Answer
-answer = answered Accepted Refused
-
+-- the buffers of an outcome, computed
 abbrev pub left : List ℕ → List ℕ → ℕ → List ℕ → Outcome ℕ → List ℕ
 left aggregates table Y = filled (λ n. bands_of aggregates table Y)
 

@@ -1,13 +1,13 @@
 -- The two calls that the one replaces: ranks over the aggregates, then bands by tally, whose promise stands here for that alone.
-use Rattle.std.specs.Prelude.{ℕ, List, ◌∷◌, ◌++◌, length}
+use Rattle.std.specs.Prelude.{ℕ, Result, List, ◌∷◌, ◌++◌, length}
 use Rattle.paper.specs.Limits.{most_tallied}
 use Rattle.paper.specs.Rulings.{Outcome, accepted, refused, Rule, judged}
-use Rattle.paper.specs.Promises.{Promised, Is}
+use Rattle.paper.specs.Promises.{said, Promised, Is}
+use Rattle.paper.specs.declared.refusal.Refusal.{Refusal}
 use Rattle.ranks.specs.Promise.{ruling as ranksRuling}
 use Rattle.tally.specs.Counts.{Tallied}
 use Rattle.placements.specs.Placing.{BestPlacement, remainder}
-use Rattle.placements.specs.Promise.{said, size_rules, counts_rule, cohort_rules, Lent, ranking}
-use Rattle.placements.specs.declared.Answer.{Answer}
+use Rattle.placements.specs.Promise.{size_rules, counts_rule, cohort_rules, Lent, ranking}
 
 -- by tally up to 100000 students, with a lent buffer of 50001 counts: the content of both buffers
 pub record TallyLent : Type 0 where
@@ -31,7 +31,7 @@ pub record Placed (aggregates table : List ℕ) (Y : ℕ) (after : TallyLent) : 
   pub best : BestPlacement aggregates table Y after.bands
   pub tallied : Tallied aggregates after.counts
 
-abbrev pub TallyPromise : List ℕ → List ℕ → ℕ → TallyLent → Answer → TallyLent → Type 0
+abbrev pub TallyPromise : List ℕ → List ℕ → ℕ → TallyLent → Result ℕ Refusal → TallyLent → Type 0
 TallyPromise aggregates table Y before r after = Promised said (Is (tally_ruling aggregates table Y before)) (λ n. Placed aggregates table Y) before r after
 
 -- those of the one call's four buffers that the second of the two writes

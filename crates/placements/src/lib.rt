@@ -1,11 +1,2 @@
 // The placements of students in bands, the best of them, and what placing promises: by direct count, and over the tally with their ranks.
 #![tactic(auto)]
-
-use paper::refusal::Refusal;
-
-// The remainder, or what is wrong.
-#[derive(Clone, Copy)]
-pub enum Answer {
-    Accepted { remainder: usize },
-    Refused(Refusal),
-}
