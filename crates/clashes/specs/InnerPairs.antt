@@ -1,8 +1,10 @@
 -- Results against each other, over the masks of their sorts and the numbers by position.
-use Rattle.std.specs.Prelude.{ℕ, ◌+◌, ◌≤◌, ◌<◌, ◌≡◌, Bool, true, not, ◌&&◌, ◌||◌, List, length}
+use Rattle.std.specs.Prelude.{ℕ, ◌+◌, ◌≤◌, ◌<◌, ◌≡◌, Bool, true, not, ◌&&◌, ◌||◌, List, length, Result, Ok, Err}
 use Rattle.std.specs.Int.Bits.{bit_and, bit_or, bit_xor}
 use Rattle.paper.specs.Limits.{most_results, most_span}
 use Rattle.paper.specs.Lists.{first, some}
+use Rattle.paper.specs.declared.refusal.Refusal.{Refusal}
+use Rattle.paper.specs.declared.refusal.Refusal.TheVariants.{Again}
 use Rattle.paper.specs.Words.{◌<?◌, ◌=?◌, ◌≠?◌, when◌then◌else◌}
 use Rattle.seek.specs.Sets.{In, has}
 use Rattle.seek.specs.InnerTest.{value_at}
@@ -10,8 +12,6 @@ use Rattle.results.specs.Results.{held_in, subject_of, year_of}
 use Rattle.clashes.specs.InnerMasks.{MaskOf}
 use Rattle.clashes.specs.declared.masks.Masks.{Masks}
 use Rattle.clashes.specs.declared.pairs.Against.{Against}
-use Rattle.clashes.specs.declared.pairs.Compared.{Compared}
-use Rattle.clashes.specs.declared.pairs.Compared.TheVariants.{Again, Kept}
 
 -- result i is one of at most sixteen; and result j one before it
 pub record OneOf (results : List ℕ) (i : ℕ) : Type 0 where
@@ -112,16 +112,16 @@ by_sorts masks i =
     (bit_or (where_in masks.general_maths masks.applied_maths i)
     (where_in masks.applied_maths masks.general_maths i)))
 
--- no result is repeated, and these are kept, with the clashes of each by position; or the first that is repeated
+-- no result is repeated, and these are kept, with the clashes of each by position; or 6 at the first that is repeated
 pub record AllCompared (results : List ℕ) (masks : Masks) (identities : List ℕ) (mask : ℕ) (clashes : List ℕ) : Type 0 where
   pub none_again : first (held_in results) (repeated_in results masks.usable) ≡ held_in results
   pub kept_are : MaskOf (kept_in results masks.usable) (held_in results) mask
   pub clashes_are : (i : ℕ) → i < held_in results → HoldsBelow (clash_in masks identities results i) i (value_at clashes i)
 
-pub record FirstAgain (results : List ℕ) (usable i : ℕ) : Type 0 where
-  pub one_of : i < held_in results
-  pub is_first : i ≡ first (held_in results) (repeated_in results usable)
+pub record FirstAgain (results : List ℕ) (usable : ℕ) (x : Refusal) : Type 0 where
+  pub one_of : first (held_in results) (repeated_in results usable) < held_in results
+  pub is_first : x ≡ Again (first (held_in results) (repeated_in results usable))
 
-abbrev pub ComparedAs : List ℕ → Masks → List ℕ → Compared → List ℕ → Type 0
-ComparedAs results masks identities (Again i) clashes = FirstAgain results masks.usable i
-ComparedAs results masks identities (Kept mask) clashes = AllCompared results masks identities mask clashes
+abbrev pub ComparedAs : List ℕ → Masks → List ℕ → Result ℕ Refusal → List ℕ → Type 0
+ComparedAs results masks identities (Err x) clashes = FirstAgain results masks.usable x
+ComparedAs results masks identities (Ok mask) clashes = AllCompared results masks identities mask clashes

@@ -1,5 +1,5 @@
 // Masks of results, bit i for result i.
-ghost use Rattle.std.specs.Prelude.{◌≡◌, ◌&&◌, ◌||◌, ◌<◌};
+ghost use Rattle.std.specs.Prelude.{◌≡◌, ◌<◌};
 ghost use Rattle.paper.specs.Limits.{most_results};
 ghost use Rattle.clashes.specs.InnerMasks.{marked};
 
@@ -20,21 +20,5 @@ pub fn marked(mask: u16, i: usize, belongs: bool) -> u16
     requires { i < most_results }
     ensures { result ≡ marked mask i belongs }
 {
-    if belongs {
-        return mask | (1u16 << i);
-    }
-    mask
-}
-
-// Whether both hold, and whether one does: as calls, so that filling in a mask has no branch of its own.
-pub fn both(one: bool, other: bool) -> bool
-    ensures { result ≡ (one && other) }
-{
-    one && other
-}
-
-pub fn either(one: bool, other: bool) -> bool
-    ensures { result ≡ (one || other) }
-{
-    one || other
+    if belongs { mask | (1u16 << i) } else { mask }
 }

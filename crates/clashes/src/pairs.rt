@@ -4,10 +4,9 @@ ghost use Rattle.std.specs.Prelude.{◌≡◌, ◌<◌};
 ghost use Rattle.paper.specs.Limits.{most_results};
 ghost use Rattle.clashes.specs.InnerPairs.{OneOf, Pair, Both, Comparable, same_subject_in, too_far, shared, without, where_in, by_sorts, AgainstAll, ComparedAs};
 
-use crate::masks;
-use crate::masks::Masks;
+use crate::masks::{Masks, marked};
 use paper::limits::{MOST_RESULTS, MOST_SPAN, RESULT_BYTES};
-use paper::widening::wide16;
+use paper::refusal::Refusal;
 use results::reading;
 
 // The results before one, by what they are to it: usable, of its subject, and of its year, of a later one, of an earlier one; and those too far from it
@@ -20,30 +19,20 @@ pub struct Against {
     pub apart: u16,
 }
 
-// The first that is the later one of two usable results of one subject and year; or the kept results.
-#[derive(Clone, Copy)]
-pub enum Compared {
-    Again(usize),
-    Kept(u16),
-}
-
 // Whether result j is usable, of the same subject as result i.
 fn same_subject(results: &[u8], usable: u16, i: usize, j: usize) -> bool
     requires { Pair results.now i j }
     ensures { result ≡ same_subject_in results.now usable i j }
 {
-    if usable & (1u16 << j) == 0 {
-        return false;
-    }
-    reading::subject_at(results, j) == reading::subject_at(results, i)
+    usable & (1u16 << j) != 0 && reading::subject_at(results, j) == reading::subject_at(results, i)
 }
 
 // Whether of two years the one exceeds the other by more than four.
 fn too_far(one: u16, other: u16) -> bool
     ensures { result ≡ too_far one other }
 {
-    let one = wide16(one);
-    let other = wide16(other);
+    let one = u64::from(one);
+    let other = u64::from(other);
     one + MOST_SPAN < other || other + MOST_SPAN < one
 }
 
@@ -62,30 +51,25 @@ fn set_against(results: &[u8], usable: u16, identities: &[u16; MOST_RESULTS], i:
     ensures { AgainstAll results.now usable identities.now i i result }
 {
     let own = reading::year_at(results, i);
-    let mut again: u16 = 0;
-    let mut later: u16 = 0;
-    let mut earlier: u16 = 0;
-    let mut apart: u16 = 0;
-    let mut j: usize = 0;
-    while j < i {
+    let mut against = Against {
+        again: 0,
+        later: 0,
+        earlier: 0,
+        apart: 0,
+    };
+    for j in 0..i {
         let year = reading::year_at(results, j);
         let same = same_subject(results, usable, i, j);
-        again = masks::marked(again, j, masks::both(same, year == own));
-        later = masks::marked(later, j, masks::both(same, own < year));
-        earlier = masks::marked(earlier, j, masks::both(same, year < own));
-        apart = masks::marked(
-            apart,
-            j,
-            masks::either(too_far(own, year), shares(identities, i, j)),
-        );
-        j += 1;
+        let far = too_far(own, year);
+        let shared = shares(identities, i, j);
+        against = Against {
+            again: marked(against.again, j, same & (year == own)),
+            later: marked(against.later, j, same & (own < year)),
+            earlier: marked(against.earlier, j, same & (year < own)),
+            apart: marked(against.apart, j, far | shared),
+        };
     }
-    Against {
-        again,
-        later,
-        earlier,
-        apart,
-    }
+    against
 }
 
 // A mask without what is in another.
@@ -100,10 +84,7 @@ fn where_in(one: u16, other: u16, i: usize) -> u16
     requires { i < most_results }
     ensures { result ≡ where_in one other i }
 {
-    if one & (1u16 << i) == 0 {
-        return 0;
-    }
-    other
+    if one & (1u16 << i) == 0 { 0 } else { other }
 }
 
 // Those that may not stand in one set with result i for their sorts; those after it too, at which the search does not look.
@@ -123,24 +104,22 @@ pub fn compare(
     masks: Masks,
     identities: &[u16; MOST_RESULTS],
     clashes: &mut [u16; MOST_RESULTS],
-) -> Compared
+) -> Result<u16, Refusal>
     requires { Comparable results.now clashes.old }
     ensures { ComparedAs results.now masks identities.now result clashes.new }
 {
     let usable = masks.usable;
     let mut kept: u16 = 0;
-    let mut i: usize = 0;
-    while i < results.len() / RESULT_BYTES {
+    for i in 0..results.len() / RESULT_BYTES {
         let others = set_against(results, usable, identities, i);
         if usable & (1u16 << i) != 0 {
             if others.again != 0 {
-                return Compared::Again(i);
+                return Err(Refusal::Again(i));
             }
             // It is kept unless one before it is later, and those before it that are earlier are kept no more.
-            kept = masks::marked(without(kept, others.earlier), i, others.later == 0);
+            kept = marked(without(kept, others.earlier), i, others.later == 0);
         }
         clashes[i] = by_sorts(masks, i) | others.apart;
-        i += 1;
     }
-    Compared::Kept(kept)
+    Ok(kept)
 }

@@ -5,6 +5,6 @@ pub returns-then-one-i-eq0 : goal.returns-then-one-i-eq0
 returns-then-one-i-eq0 c =
     rw (marked-no c.args.one c.args.i c.requires c.if-one-i-eq0.true)
 
-pub returns : goal.returns
-returns c =
+pub returns-else-one-i-eq0 : goal.returns-else-one-i-eq0
+returns-else-one-i-eq0 c =
     rw (marked-yes c.args.one c.args.i c.requires c.if-one-i-eq0.false)
