@@ -10,7 +10,7 @@ ghost use Rattle.held.specs.Judging.{year_rules, subject_rules, score_rules, fig
 ghost use Rattle.cohort.specs.Inner.{verdict_on, field_of, Marks, Seen};
 ghost use Rattle.cohort.specs.InnerValues.{nine_or_ten, Slotted, slot_place, is_marked, marks_with};
 
-use crate::{parts, values};
+use crate::values;
 use catalogue::entries;
 use fields::heads::{HEAD_BYTES, Head};
 use fields::order::Far;
@@ -22,6 +22,13 @@ use paper::limits::{
 };
 use paper::ranges::within;
 use paper::refusal::Refusal;
+
+// What is noted of the fields before: the slots that have their score, one byte to a slot, and the ids.
+#[derive(Drop)]
+struct Noted {
+    marks: [u8; MOST_SLOTS],
+    ids: [u32; MOST_STUDENTS],
+}
 
 // Tag 1, the year.
 fn judge_year(place: usize, value: &[u8]) -> Result<(), Refusal>
@@ -87,10 +94,7 @@ fn judge_score(
         return Err(Refusal::WrongSubject(place));
     }
     let slot = bytes::byte_at(value, 2);
-    if !within(1, SLOTS as u64, u64::from(slot)) {
-        return Err(Refusal::WrongScore(place));
-    }
-    if TOP_SCORE < bytes::long_at(value, 3) {
+    if !within(1, SLOTS as u64, u64::from(slot)) || TOP_SCORE < bytes::long_at(value, 3) {
         return Err(Refusal::WrongScore(place));
     }
     if is_given(marks, subject, slot) {
@@ -123,31 +127,24 @@ fn judge_figures(place: usize, value: &[u8]) -> Result<(), Refusal>
 fn judge_student(place: usize, value: &[u8], ids: &[u32]) -> Result<(), Refusal>
     ensures { said result ≡ judged (student_rules ids.now value.now place) tt }
 {
-    if parts::holds_id(ids, bytes::long_at(value, 0)) {
+    if ids.contains(&bytes::long_at(value, 0)) {
         return Err(Refusal::Again(place));
     }
     Ok(())
 }
 
-// The values of a field, by what is noted of those before it: the marks, and the ids.
-fn judge_values(
-    place: usize,
-    tag: u8,
-    value: &[u8],
-    far: Far,
-    marks: &[u8; MOST_SLOTS],
-    ids: &[u32],
-) -> Result<(), Refusal>
-    requires { (far.subjects ≤ most_subjects) × (far.students ≤ length ids.now) }
-    ensures { (held : Held) → Seen far held marks.now ids.now
+// The values of a field, by what is noted.
+fn judge_values(place: usize, tag: u8, value: &[u8], far: Far, noted: &Noted) -> Result<(), Refusal>
+    requires { (far.subjects ≤ most_subjects) × (far.students ≤ length noted.now.ids) }
+    ensures { (held : Held) → Seen far held noted.now.marks noted.now.ids
         → said result ≡ judged (value_rules held (field_of tag value.now) place) tt }
 {
     match Tag::try_from(tag) {
         Ok(Tag::Year) => judge_year(place, value),
         Ok(Tag::Subject) => judge_subject(place, value),
-        Ok(Tag::Score) => judge_score(place, value, far.subjects, marks),
+        Ok(Tag::Score) => judge_score(place, value, far.subjects, &noted.marks),
         Ok(Tag::Figures) => judge_figures(place, value),
-        Ok(Tag::Student) => judge_student(place, value, &ids[..far.students]),
+        Ok(Tag::Student) => judge_student(place, value, &noted.ids[..far.students]),
         // Results are judged with their student.
         Ok(Tag::Result) | Err(_) => Ok(()),
     }
@@ -157,8 +154,10 @@ fn judge_values(
 pub(crate) fn judge(file: &[u8]) -> Result<(), Refusal>
     ensures { said result ≡ verdict_on file.now }
 {
-    let mut marks = [0; MOST_SLOTS];
-    let mut ids = [0; MOST_STUDENTS];
+    let mut noted = Noted {
+        marks: [0; MOST_SLOTS],
+        ids: [0; MOST_STUDENTS],
+    };
     let mut far = Far::default();
     let mut at = 0;
     // The next place is past the field's value, so this is no `for`.
@@ -170,9 +169,9 @@ pub(crate) fn judge(file: &[u8]) -> Result<(), Refusal>
         let start = at + HEAD_BYTES;
         let end = start + length;
         let value = &file[start..end];
-        judge_values(at, tag, value, far, &marks, &ids)?;
-        mark(tag, value, &mut marks);
-        values::note_id(far, tag, value, &mut ids);
+        judge_values(at, tag, value, far, &noted)?;
+        mark(tag, value, &mut noted.marks);
+        values::note_id(far, tag, value, &mut noted.ids);
         far = order::further(far, tag);
         at = end;
     }

@@ -1,5 +1,5 @@
 // The taking pass: what the fields of a file hold is laid into lent buffers, and nothing is judged.
-ghost use Rattle.std.specs.Prelude.{◌≡◌, ◌+◌, ◌-◌, ◌*◌, set};
+ghost use Rattle.std.specs.Prelude.{◌≡◌, ◌+◌, ◌-◌, ◌*◌, ◌≤◌, length, set};
 ghost use Rattle.paper.specs.Limits.{result_bytes};
 ghost use Rattle.paper.specs.Bytes.{byte, word, long};
 ghost use Rattle.paper.specs.Parts.{laid};
@@ -12,7 +12,7 @@ ghost use Rattle.cohort.specs.Inner.{verdict_on, Whole};
 ghost use Rattle.cohort.specs.InnerValues.{NoneBroken, table_with, figures_to, result_to, numbers_with, rest, rest_with, Room, ResultRoom};
 
 use crate::steps::SoFar;
-use crate::{parts, values};
+use crate::values;
 use curve::Participation;
 use fields::heads::{HEAD_BYTES, Head};
 use fields::order::Far;
@@ -25,6 +25,15 @@ use paper::limits::{
 };
 use scores::rows;
 use scores::slots::{Raw, Scaled};
+
+// Lays a value into a buffer, from a place on.
+fn lay(buffer: &mut [u8], place: usize, value: &[u8])
+    requires { place + length value.now ≤ length buffer.old }
+    ensures { buffer.new ≡ laid buffer.old place value.now }
+{
+    let end = place + value.len();
+    buffer[place..end].copy_from_slice(value);
+}
 
 // A score, in its slot of the subject's row.
 fn store_score(value: &[u8], table: &mut [u8])
@@ -77,7 +86,7 @@ fn take_result(
         × (results.new ≡ laid results.old (so.results * result_bytes) value.now) }
 {
     counts[so.far.students - 1] = (so.far.latest + 1) as u8;
-    parts::lay(results, so.results * RESULT_BYTES, value);
+    lay(results, so.results * RESULT_BYTES, value);
     SoFar {
         results: so.results + 1,
         ..so
@@ -105,7 +114,7 @@ fn take_field(
             ..so
         },
         Ok(Tag::Subject) => {
-            parts::lay(catalogue, so.far.subjects * ENTRY_BYTES, value);
+            lay(catalogue, so.far.subjects * ENTRY_BYTES, value);
             so
         }
         Ok(Tag::Figures) => take_figures(value, so, figures),

@@ -17,12 +17,13 @@ use Rattle.fields.specs.Order.{head_rules}
 use Rattle.fields.specs.Inner.{Countable}
 use Rattle.fields.proofs.Fitting.{countable}
 use Rattle.fields.proofs.Headed.{cut-past, There, there}
+use Rattle.held.proofs.Fairly.{few_subjects, few_students}
 use Rattle.held.specs.Held.{Held, nothing}
 use Rattle.held.specs.Taking.{taken}
 use Rattle.held.specs.Judging.{value_rules}
 use Rattle.cohort.specs.Inner.{field_of, Seen}
 use Rattle.cohort.proofs.Walk.{says-refused, Reached, started, reached_start, short, unordered, ends, value-is, by_value, stopped, gone, end_judged}
-use Rattle.cohort.proofs.Turns.{seen, slotted, marked-taken, ids-taken, begins_start}
+use Rattle.cohort.proofs.Turns.{noted_long, seen, slotted, marked-taken, ids-taken, begins_start}
 use Rattle.cohort.proofs.Marking.{marked_start}
 use borrow.Author.Rules.{rules}
 use Rattle.cohort.proofs.judging.judge.Goals as goal
@@ -80,7 +81,7 @@ module _ (k : In_ok-judge) where
   values = value_rules held (field_of tag value) at
 
   -- which have been judged
-  module _ (verdict : Result (Unit {0}) Refusal) (ensured : (h : Held) → Seen far h k.loop-at.marks k.loop-at.ids → said verdict ≡ judged (value_rules h (field_of tag value) at) tt) where
+  module _ (verdict : Result (Unit {0}) Refusal) (ensured : (h : Held) → Seen far h k.loop-at.noted.marks k.loop-at.noted.ids → said verdict ≡ judged (value_rules h (field_of tag value) at) tt) where
     tells : said verdict ≡ judged values tt
     tells = ensured held (seen far held reached.fair k.loop-at.invariant.2 k.loop-at.invariant.3)
 
@@ -105,6 +106,11 @@ overflow_add-end c = let f = fits (goal.at.overflow_add-end c).In_ok-judge in se
 
 pub slice_bounds-value-end : goal.slice_bounds-value-end
 slice_bounds-value-end c = let f = fits (goal.at.slice_bounds-value-end c).In_ok-judge in search rules
+
+pub judge_values-requires : goal.judge_values-requires
+judge_values-requires c =
+    let fair = c.loop-at.invariant.1.fair in
+    (few_subjects fair, omega (arith, few_students fair, noted_long _ _ fair c.loop-at.invariant.3))
 
 pub returns-in_err-judge_values : goal.returns-in_err-judge_values
 returns-in_err-judge_values c =

@@ -1,7 +1,7 @@
 use lib.ListN.{length}
 use mathlib.Core.Path.{refl}
 use Rattle.paper.proofs.Parted.{put-laid}
-use Rattle.cohort.proofs.parts.lay.Goals as goal
+use Rattle.cohort.proofs.taking.lay.Goals as goal
 
 pub returns : goal.returns
 returns c =
