@@ -2,7 +2,7 @@
 ghost use Rattle.std.specs.Prelude.{◌≡◌};
 ghost use Rattle.told.specs.Best.{form};
 
-use crate::telling::{Told, told};
+use crate::telling::{Told, tell};
 use paper::refusal::Refusal;
 use sets::BestSet;
 
@@ -26,7 +26,7 @@ impl From<Result<BestSet, Refusal>> for Best {
     fn from(answer: Result<BestSet, Refusal>) -> Best {
         let BestSet { aggregate, set } = answer.unwrap_or(NO_VALUES);
         Best {
-            told: told(answer),
+            told: tell(answer),
             aggregate,
             set,
         }

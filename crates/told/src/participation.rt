@@ -2,7 +2,7 @@
 ghost use Rattle.std.specs.Prelude.{◌≡◌};
 ghost use Rattle.told.specs.Participation.{form};
 
-use crate::telling::{Told, told};
+use crate::telling::{Told, tell};
 use curve::Participation;
 use paper::refusal::Refusal;
 
@@ -26,7 +26,7 @@ impl From<Result<Participation, Refusal>> for Curve {
     fn from(answer: Result<Participation, Refusal>) -> Curve {
         let Participation { population, rate } = answer.unwrap_or(NO_VALUES);
         Curve {
-            told: told(answer),
+            told: tell(answer),
             population,
             rate,
         }

@@ -5,7 +5,7 @@ ghost use Rattle.paper.specs.Rulings.{values_or};
 ghost use Rattle.paper.specs.Promises.{said};
 ghost use Rattle.told.specs.Placing.{form};
 
-use crate::telling::{Told, told};
+use crate::telling::{Told, tell};
 use paper::refusal::Refusal;
 
 // Refused: the remainder is 0. Laid out as the header's flat shtegomir_placed.
@@ -22,7 +22,7 @@ pub fn flatten(answer: Result<usize, Refusal>) -> Placed
     ensures { result ≡ form answer }
 {
     Placed {
-        told: told(answer),
+        told: tell(answer),
         remainder: answer.unwrap_or(0) as u32,
     }
 }

@@ -15,7 +15,7 @@ pub struct Told {
 }
 
 // Of any answer, whatever its values.
-pub(crate) fn told<T: Copy>(answer: Result<T, Refusal>) -> Told
+pub(crate) fn tell<T: Copy>(answer: Result<T, Refusal>) -> Told
     ensures { result ≡ told (said answer) }
 {
     match answer {
@@ -35,6 +35,6 @@ impl From<Result<(), Refusal>> for Told {
     ghost from_gives = { λ answer given. given ≡ form answer };
 
     fn from(answer: Result<(), Refusal>) -> Told {
-        told(answer)
+        tell(answer)
     }
 }

@@ -2,7 +2,7 @@
 ghost use Rattle.std.specs.Prelude.{◌≡◌};
 ghost use Rattle.told.specs.Text.{form};
 
-use crate::telling::{Told, told};
+use crate::telling::{Told, tell};
 use paper::refusal::Refusal;
 
 // Refused: the length is 0. Laid out as the header's flat shtegomir_text.
@@ -18,7 +18,7 @@ impl From<Result<usize, Refusal>> for Text {
 
     fn from(answer: Result<usize, Refusal>) -> Text {
         Text {
-            told: told(answer),
+            told: tell(answer),
             length: answer.unwrap_or(0) as u64,
         }
     }
