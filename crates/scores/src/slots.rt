@@ -7,8 +7,8 @@ ghost use Rattle.scores.specs.Scores.{slot_in, in_row, valued, found, letter_slo
 ghost use Rattle.scores.specs.Promise.{looked};
 
 use catalogue::kinds::Kind;
+use paper::bytes;
 use paper::limits::{MISSING, ROW_BYTES, SLOT_BYTES, SLOTS, TOP_SCORE};
-use paper::{bytes, ranges};
 
 // A raw result: the slot that is asked for. 1 to 100 have a slot; that of another number is missing.
 #[derive(Clone, Copy)]
@@ -57,7 +57,7 @@ pub fn raw_of(kind: u8, letter: u8, number: u8) -> Raw
 pub(crate) fn has_slot(bytes: usize, subject: usize, raw: Raw) -> bool
     ensures { result ≡ slot_in bytes subject raw.0 }
 {
-    subject < bytes / ROW_BYTES && ranges::within(1, SLOTS as u64, u64::from(raw.0))
+    subject < bytes / ROW_BYTES && (1..=SLOTS).contains(&usize::from(raw.0))
 }
 
 // Where a slot begins in its row.
