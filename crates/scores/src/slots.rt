@@ -1,7 +1,6 @@
 // Results and scores, and the slots of the lent score table.
 ghost use Rattle.std.specs.Prelude.{◌≡◌, ◌+◌, ◌/◌, ◌≤◌, length};
 ghost use Rattle.paper.specs.Limits.{slots, slot_bytes, row_bytes};
-ghost use Rattle.paper.specs.Ranges.{within};
 ghost use Rattle.paper.specs.Bytes.{long};
 ghost use Rattle.scores.specs.Scores.{slot_in, in_row, valued, found, letter_slot, slot_of};
 ghost use Rattle.scores.specs.Promise.{looked};
