@@ -17,7 +17,7 @@ pub struct Raw(pub u8);
 #[derive(Clone, Copy)]
 pub struct Scaled(pub u32);
 
-// What a slot holds: a score, nothing, or a number over the greatest score.
+// What a slot holds: a score, nothing, or a number over the greatest score. Three cases, so neither an Option nor a Result.
 #[derive(Clone, Copy)]
 pub enum Slot {
     Score(Scaled),
