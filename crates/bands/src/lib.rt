@@ -3,21 +3,21 @@
 
 ghost use Rattle.placements.specs.Promise.{Promise, lent, TogetherPromise};
 
-use paper::screening::Verdict;
-use placements::Answer;
+use paper::refusal::Refusal;
 
 mod screening;
 
 // Bands of up to 512 students, by direct count. A refusal writes nothing.
-pub fn place(aggregates: &[u32], table: &[u32], population: u32, bands: &mut [u16]) -> Answer
+pub fn place(
+    aggregates: &[u32],
+    table: &[u32],
+    population: u32,
+    bands: &mut [u16],
+) -> Result<usize, Refusal>
     ensures { Promise aggregates.now table.now population bands.old result bands.new }
 {
-    let verdict = screening::direct(aggregates, table, population, bands.len());
-    if let Verdict::Refused(x) = verdict {
-        return Answer::Refused(x);
-    }
-    let remainder = direct::place_each(aggregates, table, population, bands);
-    Answer::Accepted { remainder }
+    screening::direct(aggregates, table, population, bands.len())?;
+    Ok(direct::place_each(aggregates, table, population, bands))
 }
 
 // Ranks, percentiles and bands of up to 100000 students, over a tally in a lent buffer of 50001 counts, whatever the buffers held
@@ -30,12 +30,12 @@ pub fn rank_and_place(
     percentiles: &mut [u32],
     bands: &mut [u16],
     counts: &mut [u32],
-) -> Answer
+) -> Result<usize, Refusal>
     ensures { TogetherPromise aggregates.now table.now population
         (lent ranks.old percentiles.old bands.old counts.old) result
         (lent ranks.new percentiles.new bands.new counts.new) }
 {
-    let screened = screening::together(
+    screening::together(
         aggregates,
         table,
         population,
@@ -43,10 +43,7 @@ pub fn rank_and_place(
         percentiles.len(),
         bands.len(),
         counts.len(),
-    );
-    if let Verdict::Refused(x) = screened {
-        return Answer::Refused(x);
-    }
+    )?;
     let remainder = together::fill(
         aggregates,
         table,
@@ -56,5 +53,5 @@ pub fn rank_and_place(
         bands,
         counts,
     );
-    Answer::Accepted { remainder }
+    Ok(remainder)
 }

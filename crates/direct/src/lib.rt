@@ -15,15 +15,8 @@ fn at_least(aggregates: &[u32], x: u32) -> u32
     requires { length aggregates.now ≤ most_tallied }
     ensures { result ≡ at_least aggregates.now x }
 {
-    let mut n: u32 = 0;
-    let mut i: usize = 0;
-    while i < aggregates.len() {
-        if x <= aggregates[i] {
-            n += 1;
-        }
-        i += 1;
-    }
-    n
+    let counted = aggregates.iter().filter(|aggregate| x <= **aggregate);
+    counted.count() as u32
 }
 
 // Each student's band, and the remainder.
@@ -32,13 +25,12 @@ pub fn place_each(aggregates: &[u32], table: &[u32], population: u32, bands: &mu
     ensures { (result ≡ remainder aggregates.now table.now population) × (bands.new ≡ bands_of aggregates.now table.now population) }
 {
     let mut remainder: usize = 0;
-    let mut student: usize = 0;
-    while student < aggregates.len() {
-        let c = at_least(aggregates, aggregates[student]);
+    // By index: what is written through `iter_mut` no contract can tell.
+    for (student, aggregate) in aggregates.iter().enumerate() {
+        let c = at_least(aggregates, *aggregate);
         let reached = search::highest(table, population, c, search::top(table, population));
         bands[student] = reached.band as u16;
         remainder += search::left_over(c, reached.places, 1);
-        student += 1;
     }
     remainder
 }

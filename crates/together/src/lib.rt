@@ -18,13 +18,11 @@ fn rank_each(aggregates: &[u32], sums: &[u32], ranks: &mut [u32], percentiles: &
     ensures { (ranks.new ≡ read_of aggregates.now sums.now) × (percentiles.new ≡ percents_of aggregates.now sums.now) }
 {
     let n = aggregates.len() as u32;
-    let mut i: usize = 0;
-    while i < aggregates.len() {
-        let a = aggregates[i] as usize;
-        let rank = sums[a];
+    // By index: what is written through `iter_mut` no contract can tell.
+    for (i, aggregate) in aggregates.iter().enumerate() {
+        let rank = sums[*aggregate as usize];
         ranks[i] = rank;
         percentiles[i] = percent::percentile(n, rank) as u32;
-        i += 1;
     }
 }
 
@@ -44,11 +42,9 @@ fn band_each(aggregates: &[u32], found: &[u32], bands: &mut [u16])
     requires { Readable aggregates.now found.now bands.old }
     ensures { bands.new ≡ read_of aggregates.now found.now }
 {
-    let mut student: usize = 0;
-    while student < aggregates.len() {
-        let a = aggregates[student] as usize;
-        bands[student] = found[a] as u16;
-        student += 1;
+    // By index: what is written through `iter_mut` no contract can tell.
+    for (student, aggregate) in aggregates.iter().enumerate() {
+        bands[student] = found[*aggregate as usize] as u16;
     }
 }
 
@@ -69,7 +65,7 @@ fn place_all(
     remainder
 }
 
-// Each student's rank, percentile and band, the tally in the counts, and the remainder.
+// Each student's rank, percentile and band, the tally in the counts, and the remainder. The four buffers come one by one, as C lends them.
 pub fn fill(
     aggregates: &[u32],
     table: &[u32],

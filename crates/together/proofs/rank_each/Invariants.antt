@@ -1,4 +1,3 @@
-use Prim.Native.Nat.{◌-◌}
 use lib.ListN.{length, get_or}
 use Rattle.paper.proofs.Filling.{Filled}
 use Rattle.ranks.specs.Ranking.{percentile}
@@ -8,6 +7,3 @@ use Rattle.together.proofs.rank_each.Given as goal
 abbrev pub invariant-loop-i : goal.invariant-loop-i
 invariant-loop-i l = Filled (length l.aggregates) (λ j. get_or l.sums (get_or l.aggregates j 0) 0) l.i l.ranks
     × Filled (length l.aggregates) (λ j. percentile (length l.aggregates) (get_or l.sums (get_or l.aggregates j 0) 0)) l.i l.percentiles
-
-abbrev pub decreases-loop-i : goal.decreases-loop-i
-decreases-loop-i l = length l.aggregates - l.i
