@@ -1,4 +1,4 @@
--- The promise determines the verdict, a computed verdict meets it, and what is accepted is sound.
+-- The promise determines the answer, a computed answer meets it, and what is accepted is sound.
 use Prim.Native.Nat.{ℕ, ◌%◌, ◌<◌}
 use native.Mathlib.Omega.{arith}
 use mathlib.Core.Path.{◌≡◌, refl, ap}
@@ -6,34 +6,36 @@ use mathlib.Core.Bool.{false, not}
 use mathlib.Core.List.{List}
 use lib.ListN.{length}
 use lib.Dec.{eqb}
+use Rattle.std.proofs.Common.{Result}
 use borrow.Author.Tests.{eqb-true, ltb-false, not-false, eq-eqb, le-ltb}
 use Rattle.paper.specs.Limits.{entry_bytes, most_subjects}
 use Rattle.paper.specs.Rulings.{accepted}
-use Rattle.paper.specs.declared.screening.Verdict.{Verdict}
+use Rattle.paper.specs.Promises.{answer}
+use Rattle.paper.specs.declared.refusal.Refusal.{Refusal}
 use Rattle.paper.proofs.Firsts.{some-not, none_has}
 use Rattle.paper.proofs.Promised as every
 use Rattle.paper.proofs.Promised.{rules_is, owes_none}
 use Rattle.paper.proofs.Ruled.{Unbroken, all_unbroken, unbroken_all, Tabled, tabled}
-use Rattle.paper.proofs.Screens.{tells}
+use Rattle.paper.proofs.Said.{tells}
 use Rattle.catalogue.specs.Catalogue.{subjects, entry_at, outside, outside_at, catalogue_rules}
 use Rattle.catalogue.specs.Meaning.{Sound}
-use Rattle.catalogue.specs.Promise.{ruling, Promise, answer}
+use Rattle.catalogue.specs.Promise.{ruling, Promise}
 use Rattle.catalogue.proofs.Ranges.{ranged, not_outside}
 
--- two permitted verdicts are equal
-pub determined : (catalogue : List ℕ) {r s : Verdict} → Promise catalogue r → Promise catalogue s → r ≡ s
+-- two permitted answers are equal
+pub determined : (catalogue : List ℕ) {r s : Result (Unit {0}) Refusal} → Promise catalogue r → Promise catalogue s → r ≡ s
 determined catalogue p q = (every.determined tells rules_is owes_none p q).0
 
 -- each rule gives a number and place of the paper's table
 pub catalogue-tabled : (catalogue : List ℕ) → Tabled (catalogue_rules catalogue)
 catalogue-tabled catalogue = (λ e. refl, (λ e. refl, (λ e. refl, tt)))
 
--- the computed verdict is permitted
+-- the computed answer is permitted
 pub meets : (catalogue : List ℕ) → Promise catalogue (answer (ruling catalogue))
 meets catalogue = every.meets tells rules_is owes_none (tabled (catalogue_rules catalogue) tt (catalogue-tabled catalogue))
 
 -- and no other
-pub only : (catalogue : List ℕ) {r : Verdict} → Promise catalogue r → r ≡ answer (ruling catalogue)
+pub only : (catalogue : List ℕ) {r : Result (Unit {0}) Refusal} → Promise catalogue r → r ≡ answer (ruling catalogue)
 only catalogue p = (every.only tells rules_is owes_none p).0
 
 -- a catalogue that breaks no rule has whole bytes, no more subjects than the limit and no entry outside its ranges

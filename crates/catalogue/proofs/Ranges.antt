@@ -2,7 +2,7 @@
 use Prim.Native.Nat.{ℕ, ◌≤◌}
 use native.Mathlib.Omega.{arith}
 use native.Mathlib.Decide.{dec_le}
-use mathlib.Core.Path.{◌≡◌, refl, ap}
+use mathlib.Core.Path.{◌≡◌, refl, sym, ap}
 use mathlib.Core.Bool.{Bool, true, false, not, ◌&&◌, ◌||◌, or-true, false≢true}
 use mathlib.Core.Logic.{inl, inr, ⊎_elim}
 use lib.Dec.{leb, eqb}
@@ -11,10 +11,12 @@ use Rattle.paper.specs.Lists.{pick}
 use Rattle.paper.specs.Ranges.{within}
 use Rattle.paper.proofs.Booleans.{both_true, true_both}
 use Rattle.paper.proofs.Ranging.{within-true, true_within}
-use Rattle.catalogue.specs.Kinds.{general, external_examination, short_course, vet, mathematics, certificate_i, advanced_diploma, is_identified}
+use Rattle.catalogue.specs.Kinds.{number, general, external_examination, short_course, vet, mathematics, certificate_i, advanced_diploma, is_identified}
 use Rattle.catalogue.specs.Catalogue.{kind_fits, strand_fits, level_fits, identity_fits, outside}
 use Rattle.catalogue.specs.Meaning.{NoStrand, Identified, Ranged}
 use Rattle.catalogue.specs.declared.entries.Entry.{Entry}
+use Rattle.catalogue.specs.declared.kinds.Kind.{Kind}
+use Rattle.catalogue.specs.declared.kinds.Kind.TheVariants.{General, Extension, ExternalExamination, Applied, ShortCourse, Vet}
 
 -- one of two tests, chosen by a third that says P
 chosen : (t a b : Bool) (P : Type 0) → (t ≡ true → P) → (P → t ≡ true) → pick t a b ≡ true → (P → a ≡ true) × ((P → ⊥) → b ≡ true)
@@ -35,6 +37,15 @@ identified k = go (eqb k general) (eqb-true k general)
 
 is-identified : (k : ℕ) → Identified k → is_identified k ≡ true
 is-identified k u = ⊎_elim (λ p. rw (eq-eqb k general p)) (λ p. rw (eq-eqb k external_examination p) (or-true (eqb k general))) u
+
+-- a number that a kind has is from General to VET
+pub kind_known : (n : ℕ) (kind : Kind) → number kind ≡ n → within general vet n ≡ true
+kind_known n General e = ap (within general vet) (sym e)
+kind_known n Extension e = ap (within general vet) (sym e)
+kind_known n ExternalExamination e = ap (within general vet) (sym e)
+kind_known n Applied e = ap (within general vet) (sym e)
+kind_known n ShortCourse e = ap (within general vet) (sym e)
+kind_known n Vet e = ap (within general vet) (sym e)
 
 module _ (entry : Entry) where
   -- an entry that is not outside its ranges is within them

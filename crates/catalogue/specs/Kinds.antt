@@ -1,7 +1,10 @@
 -- The kinds of subjects, their strands and levels, by name.
-use Rattle.std.specs.Prelude.{ℕ, Bool, ◌||◌}
+use Rattle.std.specs.Prelude.{ℕ, ◌≡◌, Bool, false, ◌||◌, Result, MatchResult}
 use Rattle.paper.specs.Words.{◌=?◌}
 use Rattle.paper.specs.Ranges.{within}
+use Rattle.catalogue.specs.declared.kinds.Kind.{Kind}
+use Rattle.catalogue.specs.declared.kinds.Kind.TheVariants.{General, Extension, ExternalExamination, Applied, ShortCourse, Vet}
+use Rattle.catalogue.specs.declared.kinds.NoKind.{NoKind}
 
 -- General, General extension and Senior External Examination, which count as General; Applied, short course, VET
 abbrev pub general : ℕ
@@ -21,6 +24,19 @@ short_course = 5
 
 abbrev pub vet : ℕ
 vet = 6
+
+-- the number of a kind
+abbrev pub number : Kind → ℕ
+number General = general
+number Extension = extension
+number ExternalExamination = external_examination
+number Applied = applied
+number ShortCourse = short_course
+number Vet = vet
+
+-- number, result: the kind that has the number; or the number, where no kind has it
+abbrev pub Names : ℕ → Result Kind NoKind → Type 0
+Names n r = MatchResult r (λ kind. number kind ≡ n) (λ none. (none.0 ≡ n) × (within general vet n ≡ false))
 
 -- the strands; 0 is none
 abbrev pub english : ℕ

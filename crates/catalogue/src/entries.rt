@@ -1,12 +1,11 @@
 // Catalogue entries. Past the end of the catalogue every part of an entry is 0.
 ghost use Rattle.std.specs.Prelude.{◌≡◌, ◌<◌};
+ghost use Rattle.catalogue.specs.Kinds.{number};
 ghost use Rattle.catalogue.specs.Catalogue.{subjects, entry_at, strand_fits, level_fits, identity_fits, outside, first_outside};
 
-use crate::kinds;
-use crate::kinds::{ADVANCED_DIPLOMA, CERTIFICATE_I, GENERAL, MATHEMATICS, SHORT_COURSE, VET};
+use crate::kinds::{ADVANCED_DIPLOMA, CERTIFICATE_I, Kind, MATHEMATICS};
+use paper::bytes;
 use paper::limits::ENTRY_BYTES;
-use paper::widening::wide8;
-use paper::{bytes, ranges};
 
 #[derive(Clone, Copy)]
 pub struct Entry {
@@ -17,6 +16,7 @@ pub struct Entry {
 }
 
 // Entry i of a catalogue.
+#[tactic(auto, using(crate::proofs::Read::entry_read, paper::proofs::Written::record_within))]
 pub fn entry_at(catalogue: &[u8], i: usize) -> Entry
     ensures { result ≡ entry_at catalogue.now i }
 {
@@ -30,6 +30,7 @@ pub fn entry_at(catalogue: &[u8], i: usize) -> Entry
 }
 
 // The same of an entry that is there: no byte is past the end.
+#[tactic(auto, unfolding(paper::specs::Bytes::word))]
 fn known_entry(catalogue: &[u8], i: usize) -> Entry
     requires { i < subjects catalogue.now }
     ensures { result ≡ entry_at catalogue.now i }
@@ -43,64 +44,57 @@ fn known_entry(catalogue: &[u8], i: usize) -> Entry
     }
 }
 
-fn strand_fits(entry: Entry) -> bool
+// The tests of an entry of this kind.
+fn strand_fits(kind: Kind, entry: Entry) -> bool
+    requires { number kind ≡ entry.kind }
     ensures { result ≡ strand_fits entry }
 {
-    // Kinds 5 and 6; a kind over 6 is outside by itself.
-    if SHORT_COURSE <= entry.kind {
-        return entry.strand == 0;
+    match kind {
+        Kind::ShortCourse | Kind::Vet => entry.strand == 0,
+        _ => entry.strand <= MATHEMATICS,
     }
-    entry.strand <= MATHEMATICS
 }
 
-fn level_fits(entry: Entry) -> bool
+fn level_fits(kind: Kind, entry: Entry) -> bool
+    requires { number kind ≡ entry.kind }
     ensures { result ≡ level_fits entry }
 {
-    if kinds::is_vet(entry.kind) {
-        return ranges::within(
-            CERTIFICATE_I as u64,
-            ADVANCED_DIPLOMA as u64,
-            wide8(entry.level),
-        );
+    match kind {
+        Kind::Vet => CERTIFICATE_I <= entry.level && entry.level <= ADVANCED_DIPLOMA,
+        _ => entry.level == 0,
     }
-    entry.level == 0
 }
 
-fn identity_fits(entry: Entry) -> bool
+fn identity_fits(kind: Kind, entry: Entry) -> bool
+    requires { number kind ≡ entry.kind }
     ensures { result ≡ identity_fits entry }
 {
-    if kinds::is_identified(entry.kind) {
-        return 1 <= entry.identity;
+    match kind {
+        Kind::General | Kind::ExternalExamination => 1 <= entry.identity,
+        _ => entry.identity == 0,
     }
-    entry.identity == 0
 }
 
 // Whether an entry is outside its ranges.
+#[tactic(auto, using(crate::proofs::Ranges::kind_known), unfolding(crate::specs::Catalogue::outside))]
 pub fn is_outside(entry: Entry) -> bool
     ensures { result ≡ outside entry }
 {
-    if !ranges::within(GENERAL as u64, VET as u64, wide8(entry.kind)) {
+    let Ok(kind) = Kind::try_from(entry.kind) else {
         return true;
-    }
-    if !strand_fits(entry) {
-        return true;
-    }
-    if !level_fits(entry) {
-        return true;
-    }
-    !identity_fits(entry)
+    };
+    !strand_fits(kind, entry) || !level_fits(kind, entry) || !identity_fits(kind, entry)
 }
 
 // The first entry outside its ranges; the number of subjects where none is.
 pub fn first_outside(catalogue: &[u8]) -> usize
     ensures { result ≡ first_outside catalogue.now }
 {
-    let mut i = 0;
-    while i < catalogue.len() / ENTRY_BYTES {
+    let subjects = catalogue.len() / ENTRY_BYTES;
+    for i in 0..subjects {
         if is_outside(known_entry(catalogue, i)) {
             return i;
         }
-        i += 1;
     }
-    i
+    subjects
 }

@@ -1,24 +1,42 @@
 // The kinds of subjects, their strands and levels, by name.
 ghost use Rattle.std.specs.Prelude.{◌≡◌};
-ghost use Rattle.catalogue.specs.Kinds.{is_general, is_applied, is_vet, is_identified};
+ghost use Rattle.catalogue.specs.Kinds.{Names, is_general, is_applied, is_vet, is_identified};
 
-use paper::ranges;
-use paper::widening::wide8;
+// The kinds, by their numbers; the first three count as General.
+#[derive(Clone, Copy, Debug, PartialEq, Eq)]
+pub enum Kind {
+    General = 1,
+    Extension = 2,
+    ExternalExamination = 3,
+    Applied = 4,
+    ShortCourse = 5,
+    Vet = 6,
+}
 
-// The kinds; the first three count as General.
-pub const GENERAL: u8 = 1;
+// A number that no kind has.
+#[derive(Clone, Copy, Debug, PartialEq, Eq)]
+pub struct NoKind(pub u8);
 
-pub const EXTENSION: u8 = 2;
+// 1 to 6, in the order above.
+impl TryFrom<u8> for Kind {
+    type Error = NoKind;
 
-pub const EXTERNAL_EXAMINATION: u8 = 3;
+    ghost try_from_gives = { Names };
 
-pub const APPLIED: u8 = 4;
+    fn try_from(number: u8) -> Result<Kind, NoKind> {
+        match number {
+            1 => Ok(Kind::General),
+            2 => Ok(Kind::Extension),
+            3 => Ok(Kind::ExternalExamination),
+            4 => Ok(Kind::Applied),
+            5 => Ok(Kind::ShortCourse),
+            6 => Ok(Kind::Vet),
+            _ => Err(NoKind(number)),
+        }
+    }
+}
 
-pub const SHORT_COURSE: u8 = 5;
-
-pub const VET: u8 = 6;
-
-// The strands.
+// The strands; 0 is none. Strands and levels stay numbers: they are only compared with one of these, so an enum is no plainer.
 pub const ENGLISH: u8 = 1;
 
 pub const MATHEMATICS: u8 = 2;
@@ -34,24 +52,30 @@ pub const ADVANCED_DIPLOMA: u8 = 6;
 pub fn is_general(kind: u8) -> bool
     ensures { result ≡ is_general kind }
 {
-    ranges::within(GENERAL as u64, EXTERNAL_EXAMINATION as u64, wide8(kind))
+    matches!(
+        Kind::try_from(kind),
+        Ok(Kind::General | Kind::Extension | Kind::ExternalExamination)
+    )
 }
 
 pub fn is_applied(kind: u8) -> bool
     ensures { result ≡ is_applied kind }
 {
-    kind == APPLIED
+    matches!(Kind::try_from(kind), Ok(Kind::Applied))
 }
 
 pub fn is_vet(kind: u8) -> bool
     ensures { result ≡ is_vet kind }
 {
-    kind == VET
+    matches!(Kind::try_from(kind), Ok(Kind::Vet))
 }
 
 // Whether the kind has an identity.
 pub fn is_identified(kind: u8) -> bool
     ensures { result ≡ is_identified kind }
 {
-    kind == GENERAL || kind == EXTERNAL_EXAMINATION
+    matches!(
+        Kind::try_from(kind),
+        Ok(Kind::General | Kind::ExternalExamination)
+    )
 }

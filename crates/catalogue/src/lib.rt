@@ -5,25 +5,24 @@ ghost use Rattle.catalogue.specs.Promise.{Promise};
 
 use paper::limits::{ENTRY_BYTES, MOST_SUBJECTS};
 use paper::refusal::Refusal;
-use paper::screening::Verdict;
 
 pub mod entries;
 pub mod kinds;
 
 // The test of a whole catalogue.
-pub fn screen(catalogue: &[u8]) -> Verdict
+pub fn screen(catalogue: &[u8]) -> Result<(), Refusal>
     ensures { Promise catalogue.now result }
 {
     let subjects = catalogue.len() / ENTRY_BYTES;
     if catalogue.len() % ENTRY_BYTES != 0 {
-        return Verdict::Refused(Refusal::Malformed(subjects));
+        return Err(Refusal::Malformed(subjects));
     }
     if MOST_SUBJECTS < subjects {
-        return Verdict::Refused(Refusal::TooMany(MOST_SUBJECTS));
+        return Err(Refusal::TooMany(MOST_SUBJECTS));
     }
     let outside = entries::first_outside(catalogue);
     if outside < subjects {
-        return Verdict::Refused(Refusal::WrongSubject(outside));
+        return Err(Refusal::WrongSubject(outside));
     }
-    Verdict::Clear
+    Ok(())
 }

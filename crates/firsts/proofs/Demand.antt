@@ -1,4 +1,5 @@
 -- What follows from the promise, for every answer and table that it permits.
+use Rattle.std.proofs.Common.{Result, Ok}
 use Prim.Native.Nat.{ℕ, ◌-◌, ◌*◌, ◌<◌, ◌≤◌}
 use native.Mathlib.Omega.{arith}
 use native.Mathlib.Decide.{ℕ_discrete}
@@ -12,6 +13,8 @@ use Rattle.paper.specs.Limits.{slots, row_bytes}
 use Rattle.paper.specs.Letters.{letter_a, letter_e}
 use Rattle.paper.specs.Lists.{pick}
 use Rattle.paper.specs.Rulings.{Outcome, accepted, refused}
+use Rattle.paper.specs.Promises.{answer}
+use Rattle.paper.specs.declared.refusal.Refusal.{Refusal}
 use Rattle.paper.proofs.Parted.{length-put, put-again}
 use Rattle.paper.proofs.Ruled.{Unbroken, all_unbroken}
 use Rattle.catalogue.specs.Kinds.{is_general, is_applied}
@@ -24,9 +27,7 @@ use Rattle.scores.proofs.Slotted.{found-row}
 use Rattle.scores.proofs.Within.{absent-over, scaled-over}
 use Rattle.firsts.specs.Counts.{total, score}
 use Rattle.firsts.specs.Row.{asked, slot_for, row_for}
-use Rattle.firsts.specs.Promise.{count_rules, ruling, written, Promise, answer, left}
-use Rattle.firsts.specs.declared.Answer.{Answer}
-use Rattle.firsts.specs.declared.Answer.TheVariants.{Accepted}
+use Rattle.firsts.specs.Promise.{count_rules, ruling, written, Promise, left}
 use Rattle.firsts.proofs.Rising.{rising, score-most}
 use Rattle.firsts.proofs.Slotting.{slot_within, applied-asked, number-slot, letter_slot_lem}
 use Rattle.firsts.proofs.Written.{in_slot, row_is, length-for, slot_score, slot_scored, slot_own}
@@ -44,7 +45,7 @@ ruled-alike kind subject counts t u l = rw l refl
 
 module _ (kind subject : ℕ) (counts before : List ℕ) where
   -- what an accepted call leaves
-  module _ (after : List ℕ) (p : Promise kind subject counts before Accepted after) where
+  module _ (after : List ℕ) (p : Promise kind subject counts before (Ok tt) after) where
     unbroken : Unbroken (count_rules kind subject counts before)
     unbroken = all_unbroken (count_rules kind subject counts before) tt tt (sym p.says)
 
@@ -117,7 +118,7 @@ module _ (kind subject : ℕ) (counts before : List ℕ) where
   kept-or_written (refused f) = inl refl
 
   -- no other subject's lookups change
-  pub others_stay : (r : Answer) (after : List ℕ) → Promise kind subject counts before r after → (other slot : ℕ) → (other ≡ subject → ⊥)
+  pub others_stay : (r : Result (Unit {0}) Refusal) (after : List ℕ) → Promise kind subject counts before r after → (other slot : ℕ) → (other ≡ subject → ⊥)
       → found after other slot ≡ found before other slot
   others_stay r after p other slot n =
       ap (λ (t : List ℕ). found t other slot) (only kind subject counts before p).1
@@ -127,12 +128,12 @@ module _ (kind subject : ℕ) (counts before : List ℕ) where
       (kept-or_written (ruling kind subject counts before))
 
   -- so that a table with no number over the greatest score has none after
-  pub none-over_after : (after : List ℕ) → Promise kind subject counts before Accepted after → NoneOver before → NoneOver after
+  pub none-over_after : (after : List ℕ) → Promise kind subject counts before (Ok tt) after → NoneOver before → NoneOver after
   none-over_after after p h other slot e = go (ℕ_discrete other subject)
     where
       go : Dec (other ≡ subject) → ⊥
       go (yes s) = none_over after p slot (subst (λ (o : ℕ). found after o slot ≡ too_high) s e)
-      go (no s) = h other slot (sym (others_stay Accepted after p other slot s) ∙ e)
+      go (no s) = h other slot (sym (others_stay (Ok tt) after p other slot s) ∙ e)
 
   -- the table keeps its length
   length-left : (o : Outcome (Unit {0})) → length (left kind subject counts before o) ≡ length before
@@ -140,7 +141,7 @@ module _ (kind subject : ℕ) (counts before : List ℕ) where
   length-left (refused f) = refl
 
   -- a row written twice from the same counts is the row written once
-  pub again : (r s : Answer) (after last : List ℕ) → Promise kind subject counts before r after → Promise kind subject counts after s last → (s ≡ r) × (last ≡ after)
+  pub again : (r s : Result (Unit {0}) Refusal) (after last : List ℕ) → Promise kind subject counts before r after → Promise kind subject counts after s last → (s ≡ r) × (last ≡ after)
   again r s after last p q =
       let a = only kind subject counts before p in
       let b = only kind subject counts after q in

@@ -1,24 +1,17 @@
 -- What the entry promises, for every input.
-use Rattle.std.specs.Prelude.{ℕ, ◌%◌, ◌≡◌, not, List, [], ◌∷◌, length}
+use Rattle.std.specs.Prelude.{ℕ, ◌%◌, ◌≡◌, not, List, [], ◌∷◌, length, Result}
 use Rattle.paper.specs.Limits.{row_bytes, most_count}
 use Rattle.paper.specs.Lists.{first_over, some_over}
 use Rattle.paper.specs.Ranges.{within}
 use Rattle.paper.specs.Words.{◌≤?◌, ◌<?◌, ◌=?◌, ◌≠?◌}
-use Rattle.paper.specs.Rulings.{Outcome, accepted, refused, Rule, ◌⇒◌, ◌at◌, judged}
-use Rattle.paper.specs.Refusals.{fault}
-use Rattle.paper.specs.Promises.{Promised, Is, answered, filled}
+use Rattle.paper.specs.Rulings.{Outcome, Rule, ◌⇒◌, ◌at◌, judged}
+use Rattle.paper.specs.Promises.{Promised, said, Is, filled}
+use Rattle.paper.specs.declared.refusal.Refusal.{Refusal}
 use Rattle.catalogue.specs.Kinds.{general, short_course, vet}
 use Rattle.scores.specs.Scores.{rows}
 use Rattle.scores.specs.Rows.{with_row}
 use Rattle.firsts.specs.Counts.{total}
 use Rattle.firsts.specs.Row.{asked, row_for}
-use Rattle.firsts.specs.declared.Answer.{Answer}
-use Rattle.firsts.specs.declared.Answer.TheVariants.{Accepted, Refused}
-
--- accepted, or the paper's number and place
-abbrev pub said : Answer → Outcome (Unit {0})
-said Accepted = accepted tt
-said (Refused x) = refused (fault x)
 
 -- 3: a short course, a kind outside 1..6, a subject without a row; 11: a wrong number of counts, a table not of whole rows; 15: a count over
 -- 1000000, at its index, then a total over it
@@ -41,13 +34,10 @@ abbrev pub written : ℕ → ℕ → List ℕ → List ℕ → List ℕ
 written kind subject counts table = with_row table subject (row_for kind counts)
 
 -- kind, subject, counts, the table before, the answer, the table after: accepted, the subject's row is written
-abbrev pub Promise : ℕ → ℕ → List ℕ → List ℕ → Answer → List ℕ → Type 0
+abbrev pub Promise : ℕ → ℕ → List ℕ → List ℕ → Result (Unit {0}) Refusal → List ℕ → Type 0
 Promise kind subject counts before r after =
     Promised said (Is (ruling kind subject counts before)) (λ u table. table ≡ written kind subject counts before) before r after
 
--- the answer and the table of an outcome, computed
-abbrev pub answer : Outcome (Unit {0}) → Answer
-answer = answered (λ u. Accepted) Refused
-
+-- the table of an outcome, computed
 abbrev pub left : ℕ → ℕ → List ℕ → List ℕ → Outcome (Unit {0}) → List ℕ
 left kind subject counts before = filled (λ u. written kind subject counts before) before

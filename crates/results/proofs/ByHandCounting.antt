@@ -9,11 +9,11 @@ use Rattle.paper.specs.Letters.{letter_a, letter_b, letter_c, letter_d, letter_e
 use Rattle.catalogue.proofs.ByHandEntries.{those, bytes}
 use Rattle.results.specs.Results.{Student, student, held}
 use Rattle.results.specs.Counting.{usable, passes, shows_english, usable_at, kept}
-use Rattle.results.specs.declared.reading.Result.{Result}
+use Rattle.results.specs.declared.reading.StudentResult.{StudentResult}
 use Rattle.results.proofs.ByHandResults.{read}
 
 -- kind, strand, level, letter, year: a result
-abbrev pub made : ℕ → ℕ → ℕ → ℕ → ℕ → Result
+abbrev pub made : ℕ → ℕ → ℕ → ℕ → ℕ → StudentResult
 made kind strand level letter year = read 0 letter 0 year kind strand level 0
 
 -- kind, level, letter: a result of 2021 is usable

@@ -11,13 +11,13 @@ use Rattle.scores.specs.Scores.{scaled, absent, too_high, found, slot_of}
 use Rattle.scores.specs.Rows.{slots_from, row_of}
 use Rattle.results.specs.Results.{held_in, result_of}
 use Rattle.results.specs.Scoring.{score_found, worth, score, own_identity}
-use Rattle.results.specs.declared.reading.Result.{Result}
+use Rattle.results.specs.declared.reading.StudentResult.{StudentResult}
 
 -- 6 bytes: subject (two), letter, number, year (two); the subject is its place in the catalogue from 0
 abbrev pub pair : List ℕ
 pair = 1 ∷ 2 ∷ 3 ∷ 4 ∷ 5 ∷ 6 ∷ 0 ∷ 1 ∷ 9 ∷ 10 ∷ 11 ∷ 12 ∷ []
 
-abbrev pub read : ℕ → ℕ → ℕ → ℕ → ℕ → ℕ → ℕ → ℕ → Result
+abbrev pub read : ℕ → ℕ → ℕ → ℕ → ℕ → ℕ → ℕ → ℕ → StudentResult
 read subject letter number year kind strand level identity = record { subject = subject; letter = letter; number = number; year = year; entry = entry_of kind strand level identity }
 
 pub fields : (result_of two pair 0 ≡ read 258 3 4 1286 0 0 0 0) × (result_of two pair 1 ≡ read 1 9 10 2828 6 7 8 2314) × (result_of two (replicate 6 0) 0 ≡ read 0 0 0 0 1 2 3 1029)

@@ -6,16 +6,16 @@ use Rattle.paper.specs.Ranges.{within}
 use Rattle.paper.specs.Words.{◌≤?◌, ◌<?◌, ◌=?◌}
 use Rattle.catalogue.specs.Kinds.{english, certificate_iii, is_general, is_applied, is_vet}
 use Rattle.results.specs.Results.{Student, held, result}
-use Rattle.results.specs.declared.reading.Result.{Result}
+use Rattle.results.specs.declared.reading.StudentResult.{StudentResult}
 
 -- kinds 1 to 3 count as General
-abbrev pub of_general : Result → Bool
+abbrev pub of_general : StudentResult → Bool
 of_general r = is_general r.entry.kind
 
-abbrev pub of_applied : Result → Bool
+abbrev pub of_applied : StudentResult → Bool
 of_applied r = is_applied r.entry.kind
 
-abbrev pub of_strand : ℕ → Result → Bool
+abbrev pub of_strand : ℕ → StudentResult → Bool
 of_strand strand r = r.entry.strand =? strand
 
 -- the same of result i
@@ -29,11 +29,11 @@ abbrev pub strand_at : ℕ → Student → ℕ → Bool
 strand_at strand s i = of_strand strand (result s i)
 
 -- usable: kinds 1 to 4, or VET with Y and level 3 or more; of any year
-unfoldable pub usable : Result → Bool
+unfoldable pub usable : StudentResult → Bool
 usable r = of_general r || (of_applied r || (is_vet r.entry.kind && (r.letter =? letter_y && certificate_iii ≤? r.entry.level)))
 
 -- a usable result with strand 1 and letter A, B or C
-abbrev pub passes : Result → Bool
+abbrev pub passes : StudentResult → Bool
 passes r = usable r && (of_strand english r && within letter_a letter_c r.letter)
 
 abbrev pub passes_at : Student → ℕ → Bool

@@ -3,7 +3,7 @@ use Rattle.std.specs.Prelude.{ℕ, ◌+◌, ◌*◌, List}
 use Rattle.paper.specs.Limits.{result_bytes}
 use Rattle.paper.specs.Bytes.{byte, word, records}
 use Rattle.catalogue.specs.Catalogue.{entry_at}
-use Rattle.results.specs.declared.reading.Result.{Result}
+use Rattle.results.specs.declared.reading.StudentResult.{StudentResult}
 
 -- how many whole results there are
 abbrev pub held_in : List ℕ → ℕ
@@ -17,7 +17,7 @@ abbrev pub year_of : List ℕ → ℕ → ℕ
 year_of results i = word results (result_bytes * i + 4)
 
 -- catalogue, results, i: result i, with the entry of its subject
-abbrev pub result_of : List ℕ → List ℕ → ℕ → Result
+abbrev pub result_of : List ℕ → List ℕ → ℕ → StudentResult
 result_of catalogue results i = record {
   subject = subject_of results i;
   letter = byte results (result_bytes * i + 2);
@@ -39,5 +39,5 @@ student catalogue year results = record { catalogue = catalogue; year = year; re
 abbrev pub held : Student → ℕ
 held s = held_in s.results
 
-abbrev pub result : Student → ℕ → Result
+abbrev pub result : Student → ℕ → StudentResult
 result s i = result_of s.catalogue s.results i

@@ -9,7 +9,7 @@ use paper::limits::RESULT_BYTES;
 
 // A result, with the entry of its subject.
 #[derive(Clone, Copy)]
-pub struct Result {
+pub struct StudentResult {
     pub subject: u16,
     pub letter: u8,
     pub number: u8,
@@ -18,26 +18,23 @@ pub struct Result {
 }
 
 // Result i, one of those that there are.
-pub fn result_at(catalogue: &[u8], results: &[u8], i: usize) -> Result
+pub fn result_at(catalogue: &[u8], results: &[u8], i: usize) -> StudentResult
     requires { i < held_in results.now }
     ensures { result ≡ result_of catalogue.now results.now i }
 {
     let at = RESULT_BYTES * i;
     let subject = subject_at(results, i);
-    let letter = results[at + 2];
-    let number = results[at + 3];
-    let year = year_at(results, i);
-    let entry = entries::entry_at(catalogue, subject as usize);
-    Result {
+    StudentResult {
         subject,
-        letter,
-        number,
-        year,
-        entry,
+        letter: results[at + 2],
+        number: results[at + 3],
+        year: year_at(results, i),
+        entry: entries::entry_at(catalogue, usize::from(subject)),
     }
 }
 
 // Its subject, and its year: of the whole result, and again where two are compared.
+#[tactic(auto, unfolding(paper::specs::Bytes::word))]
 pub fn subject_at(results: &[u8], i: usize) -> u16
     requires { i < held_in results.now }
     ensures { result ≡ subject_of results.now i }
@@ -46,6 +43,7 @@ pub fn subject_at(results: &[u8], i: usize) -> u16
     bytes::word_of(results[at], results[at + 1])
 }
 
+#[tactic(auto, unfolding(paper::specs::Bytes::word))]
 pub fn year_at(results: &[u8], i: usize) -> u16
     requires { i < held_in results.now }
     ensures { result ≡ year_of results.now i }

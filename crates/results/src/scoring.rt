@@ -3,17 +3,18 @@ ghost use Rattle.std.specs.Prelude.{◌≡◌};
 ghost use Rattle.scores.specs.Promise.{looked};
 ghost use Rattle.results.specs.Scoring.{score_found, worth, own_identity};
 
-use crate::reading::Result;
+use crate::reading::StudentResult;
 use catalogue::kinds;
 use scores::slots;
 use scores::slots::Slot;
 
 // What is found in the slot of a result.
-pub fn slot_of(table: &[u8], res: Result) -> Slot
+#[tactic(auto, unfolding(crate::specs::Scoring::score_found))]
+pub fn slot_of(table: &[u8], res: StudentResult) -> Slot
     ensures { looked result ≡ score_found table.now res }
 {
     let raw = slots::raw_of(res.entry.kind, res.letter, res.number);
-    slots::look_up(table, res.subject as usize, raw)
+    slots::look_up(table, usize::from(res.subject), raw)
 }
 
 // The score that was found, 0 where there is none.
@@ -22,17 +23,18 @@ pub fn score_of(slot: Slot) -> u32
 {
     match slot {
         Slot::Score(score) => score.0,
-        Slot::Missing => 0,
-        Slot::Over => 0,
+        Slot::Missing | Slot::Over => 0,
     }
 }
 
 // The identity of kinds 1 and 3, 0 for the others.
-pub fn identity_of(res: Result) -> u16
+#[tactic(auto, unfolding(crate::specs::Scoring::own_identity))]
+pub fn identity_of(res: StudentResult) -> u16
     ensures { result ≡ own_identity res }
 {
     if kinds::is_identified(res.entry.kind) {
-        return res.entry.identity;
+        res.entry.identity
+    } else {
+        0
     }
-    0
 }

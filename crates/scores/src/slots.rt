@@ -6,10 +6,9 @@ ghost use Rattle.paper.specs.Bytes.{long};
 ghost use Rattle.scores.specs.Scores.{slot_in, in_row, valued, found, letter_slot, slot_of};
 ghost use Rattle.scores.specs.Promise.{looked};
 
-use catalogue::kinds;
+use catalogue::kinds::Kind;
+use paper::bytes;
 use paper::limits::{MISSING, ROW_BYTES, SLOT_BYTES, SLOTS, TOP_SCORE};
-use paper::widening::wide8;
-use paper::{bytes, ranges};
 
 // A raw result: the slot that is asked for. 1 to 100 have a slot; that of another number is missing.
 #[derive(Clone, Copy)]
@@ -42,29 +41,23 @@ fn letter_slot(letter: u8) -> u8
 }
 
 // The slot of a result: General that of its number, Applied that of its letter, VET slot 1; with none it is 0.
+#[tactic(auto, unfolding(crate::specs::Scores::slot_of))]
 pub fn raw_of(kind: u8, letter: u8, number: u8) -> Raw
     ensures { result.0 ≡ slot_of kind letter number }
 {
-    if kinds::is_general(kind) {
-        return Raw(number);
+    match Kind::try_from(kind) {
+        Ok(Kind::General | Kind::Extension | Kind::ExternalExamination) => Raw(number),
+        Ok(Kind::Applied) => Raw(letter_slot(letter)),
+        Ok(Kind::Vet) => Raw(1),
+        Ok(Kind::ShortCourse) | Err(_) => Raw(0),
     }
-    if kinds::is_applied(kind) {
-        return Raw(letter_slot(letter));
-    }
-    if kinds::is_vet(kind) {
-        return Raw(1);
-    }
-    Raw(0)
 }
 
 // Whether a table of so many bytes has the slot.
 pub(crate) fn has_slot(bytes: usize, subject: usize, raw: Raw) -> bool
     ensures { result ≡ slot_in bytes subject raw.0 }
 {
-    if bytes / ROW_BYTES <= subject {
-        return false;
-    }
-    ranges::within(1, SLOTS as u64, wide8(raw.0))
+    subject < bytes / ROW_BYTES && (1..=SLOTS).contains(&usize::from(raw.0))
 }
 
 // Where a slot begins in its row.
@@ -72,10 +65,11 @@ pub(crate) fn in_row(raw: Raw) -> usize
     requires { (1 ≤ raw.0) × (raw.0 ≤ slots) }
     ensures { (result ≡ in_row raw.0) × (result + slot_bytes ≤ row_bytes) }
 {
-    SLOT_BYTES * (raw.0 as usize - 1)
+    SLOT_BYTES * (usize::from(raw.0) - 1)
 }
 
 // The number in a slot of the table, by where it begins.
+#[tactic(auto, unfolding(paper::specs::Bytes::word, paper::specs::Bytes::long))]
 fn held(table: &[u8], at: usize) -> u32
     requires { at + slot_bytes ≤ length table.now }
     ensures { result ≡ long table.now at }
@@ -89,13 +83,11 @@ fn held(table: &[u8], at: usize) -> u32
 fn valued(value: u32) -> Slot
     ensures { looked result ≡ valued value }
 {
-    if value == MISSING {
-        return Slot::Missing;
+    match value {
+        MISSING => Slot::Missing,
+        0..=TOP_SCORE => Slot::Score(Scaled(value)),
+        _ => Slot::Over,
     }
-    if TOP_SCORE < value {
-        return Slot::Over;
-    }
-    Slot::Score(Scaled(value))
 }
 
 // The one way from a raw result to a scaled one.

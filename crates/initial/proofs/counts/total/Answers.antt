@@ -5,13 +5,13 @@ use native.Mathlib.Omega.{arith}
 use mathlib.Core.Path.{refl}
 use Rattle.initial.proofs.counts.total.Goals as goal
 
-pub loop-j-init : goal.loop-j-init
+pub loop-n-init : goal.loop-n-init
 unfolding sum
-loop-j-init c =
-    (omega arith, refl, omega arith)
+loop-n-init c =
+    (refl, omega arith)
 
-pub loop-j-preserved : goal.loop-j-preserved
-loop-j-preserved c =
+pub loop-n-preserved : goal.loop-n-preserved
+loop-n-preserved c =
     let counts = c.args.counts.now in
-    let j = c.loop-j.j in
-    (omega arith, omega (arith, sum_step j (λ i. get_or counts i 0)), omega (arith, c.requires.each j c.loop-j-test.true))
+    let n = c.loop-n.n-index in
+    (omega (arith, sum_step n (λ i. get_or counts i 0)), omega (arith, c.requires.each n c.loop-n-test.true))
