@@ -10,7 +10,7 @@ use Rattle.fields.specs.Fields.{Field, file_of, whole, cut, pieces, pieces_of, b
 use Rattle.fields.specs.Order.{start, further, order_rules, end_rules}
 use Rattle.fields.specs.declared.order.Far.{Far}
 use Rattle.fields.specs.Inner.{head_at}
-use Rattle.fields.specs.declared.heads.Head.TheVariants.{Whole, Cut}
+use Rattle.std.proofs.Common.{Some, None}
 
 abbrev pub field : ℕ → List ℕ → Field
 field tag v = record { tag = tag; value = v }
@@ -41,7 +41,7 @@ pub standing :
 unfolding word word_bytes file_of pieces
 standing = (refl, refl, refl, refl, refl, refl)
 
-pub heads : (head_at (1 ∷ 0 ∷ 2 ∷ 7 ∷ 229 ∷ []) 0 ≡ Whole 1 2) × (head_at (1 ∷ 0 ∷ 2 ∷ 7 ∷ []) 0 ≡ Cut) × (head_at (1 ∷ 0 ∷ 2 ∷ 7 ∷ 229 ∷ []) 5 ≡ Cut)
+pub heads : (head_at (1 ∷ 0 ∷ 2 ∷ 7 ∷ 229 ∷ []) 0 ≡ Some (record { tag = 1; length = 2 })) × (head_at (1 ∷ 0 ∷ 2 ∷ 7 ∷ []) 0 ≡ None) × (head_at (1 ∷ 0 ∷ 2 ∷ 7 ∷ 229 ∷ []) 5 ≡ None)
 unfolding word head_at
 heads = (refl, refl, refl)
 

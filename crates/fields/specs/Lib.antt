@@ -1,3 +1,4 @@
 pub mod Fields
+pub mod Tags
 pub mod Order
 pub mod Inner

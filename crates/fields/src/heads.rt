@@ -4,31 +4,27 @@ ghost use Rattle.fields.specs.Inner.{head_at};
 
 use paper::bytes;
 
-// The tag and the value's length of a field that is whole; or it is cut short.
+// Of a whole field: its tag, any byte until it is judged, and its value's length.
 #[derive(Clone, Copy)]
-pub enum Head {
-    Whole { tag: u8, length: usize },
-    Cut,
+pub struct Head {
+    pub tag: u8,
+    pub length: usize,
 }
 
 // The bytes of a tag and a length.
 pub const HEAD_BYTES: usize = 3;
 
-pub fn head_at(file: &[u8], place: usize) -> Head
+// None where the field is cut short.
+#[tactic(auto, using(crate::proofs::Headed::is_cut, crate::proofs::Headed::is_whole))]
+pub fn head_at(file: &[u8], place: usize) -> Option<Head>
     ensures { result ≡ head_at file.now place }
 {
-    if file.len() < HEAD_BYTES {
-        return Head::Cut;
-    }
     // By the room that is left: a place with three bytes and a length more could wrap.
-    let room = file.len() - HEAD_BYTES;
-    if room < place {
-        return Head::Cut;
-    }
-    let length = bytes::word_at(file, place + 1) as usize;
-    if room - place < length {
-        return Head::Cut;
+    let room = file.len().checked_sub(HEAD_BYTES)?.checked_sub(place)?;
+    let length = usize::from(bytes::word_at(file, place + 1));
+    if room < length {
+        return None;
     }
     let tag = bytes::byte_at(file, place);
-    Head::Whole { tag, length }
+    Some(Head { tag, length })
 }

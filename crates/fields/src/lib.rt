@@ -3,3 +3,4 @@
 
 pub mod heads;
 pub mod order;
+pub mod tags;

@@ -1,21 +1,21 @@
 // How far a file is read, and its next field judged for 1, then 2.
 ghost use Rattle.std.specs.Prelude.{◌≡◌};
 ghost use Rattle.paper.specs.Rulings.{judged};
-ghost use Rattle.paper.specs.Screening.{ruled};
+ghost use Rattle.paper.specs.Promises.{said};
 ghost use Rattle.fields.specs.Fields.{length_of};
-ghost use Rattle.fields.specs.Order.{start, further, follows, full, head_rules, end_rules};
+ghost use Rattle.fields.specs.Order.{further, follows, full, head_rules, end_rules};
 ghost use Rattle.fields.specs.Inner.{Countable};
 
+use crate::tags::Tag;
 use paper::limits::{
     ENTRY_BYTES, FIGURE_BYTES, FIGURE_COUNT, MOST_STUDENTS, MOST_SUBJECTS, RESULT_BYTES, SLOT_BYTES,
 };
 use paper::ranges::within;
 use paper::refusal::Refusal;
-use paper::screening::Verdict;
-use paper::widening::wide8;
 
-// The last field's tag, the numbers of subjects and students, and of the latest student's results.
-#[derive(Clone, Copy)]
+// The last field's tag, a byte as the definitions have it, 0 before the first field; the numbers of subjects and students, and of the
+// latest student's results.
+#[derive(Clone, Copy, Default)]
 pub struct Far {
     pub last: u8,
     pub subjects: usize,
@@ -23,40 +23,27 @@ pub struct Far {
     pub latest: usize,
 }
 
-// Before the first field.
-pub fn start() -> Far
-    ensures { result ≡ start }
-{
-    Far {
-        last: 0,
-        subjects: 0,
-        students: 0,
-        latest: 0,
-    }
-}
-
 // With a field of the tag more.
 pub fn further(far: Far, tag: u8) -> Far
     requires { Countable far tag }
     ensures { result ≡ further far tag }
 {
-    let mut next = far;
-    next.last = tag;
-    match tag {
-        2 => {
-            next.subjects = far.subjects + 1;
-            next
-        }
-        5 => {
-            next.students = far.students + 1;
-            next.latest = 0;
-            next
-        }
-        6 => {
-            next.latest = far.latest + 1;
-            next
-        }
-        _ => next,
+    let far = Far { last: tag, ..far };
+    match Tag::try_from(tag) {
+        Ok(Tag::Subject) => Far {
+            subjects: far.subjects + 1,
+            ..far
+        },
+        Ok(Tag::Student) => Far {
+            students: far.students + 1,
+            latest: 0,
+            ..far
+        },
+        Ok(Tag::Result) => Far {
+            latest: far.latest + 1,
+            ..far
+        },
+        _ => far,
     }
 }
 
@@ -69,34 +56,33 @@ const FIGURES_BYTES: usize = FIGURE_COUNT * FIGURE_BYTES;
 
 const ID_BYTES: usize = 4;
 
-// The bytes of a tag's value. A match is total: another tag than 1 to 6 has 0, and is refused for itself.
+// The bytes of a tag's value; of another byte 0, which is refused for itself.
 fn length_of(tag: u8) -> usize
     ensures { result ≡ length_of tag }
 {
-    match tag {
-        1 => YEAR_BYTES,
-        2 => ENTRY_BYTES,
-        3 => SCORE_BYTES,
-        4 => FIGURES_BYTES,
-        5 => ID_BYTES,
-        6 => RESULT_BYTES,
-        _ => 0,
+    match Tag::try_from(tag) {
+        Ok(Tag::Year) => YEAR_BYTES,
+        Ok(Tag::Subject) => ENTRY_BYTES,
+        Ok(Tag::Score) => SCORE_BYTES,
+        Ok(Tag::Figures) => FIGURES_BYTES,
+        Ok(Tag::Student) => ID_BYTES,
+        Ok(Tag::Result) => RESULT_BYTES,
+        Err(_) => 0,
     }
 }
 
-// Whether the tag is in order. A match is total: another tag than 1 to 6 follows none, and is refused for itself.
+// Whether the tag is in order; another byte follows none, and is refused for itself.
 fn follows(last: u8, tag: u8) -> bool
     ensures { result ≡ follows last tag }
 {
-    let before = wide8(last);
-    match tag {
-        1 => before == 0,
-        2 => within(1, 2, before),
-        3 => within(1, 3, before),
-        4 => within(1, 3, before),
-        5 => within(4, 6, before),
-        6 => within(5, 6, before),
-        _ => false,
+    let before = u64::from(last);
+    match Tag::try_from(tag) {
+        Ok(Tag::Year) => before == 0,
+        Ok(Tag::Subject) => within(1, 2, before),
+        Ok(Tag::Score | Tag::Figures) => within(1, 3, before),
+        Ok(Tag::Student) => within(4, 6, before),
+        Ok(Tag::Result) => within(5, 6, before),
+        Err(_) => false,
     }
 }
 
@@ -104,39 +90,33 @@ fn follows(last: u8, tag: u8) -> bool
 fn is_full(limit: usize, far: Far, tag: u8) -> bool
     ensures { result ≡ full limit far tag }
 {
-    match tag {
-        2 => MOST_SUBJECTS <= far.subjects,
-        5 => MOST_STUDENTS <= far.students,
-        6 => limit <= far.latest,
+    match Tag::try_from(tag) {
+        Ok(Tag::Subject) => MOST_SUBJECTS <= far.subjects,
+        Ok(Tag::Student) => MOST_STUDENTS <= far.students,
+        Ok(Tag::Result) => limit <= far.latest,
         _ => false,
     }
 }
 
 // A field by its tag and its value's length, at a place.
-pub fn judge(limit: usize, far: Far, tag: u8, length: usize, place: usize) -> Verdict
-    ensures { ruled result ≡ judged (head_rules limit far tag length place) tt }
+pub fn judge(limit: usize, far: Far, tag: u8, length: usize, place: usize) -> Result<(), Refusal>
+    ensures { said result ≡ judged (head_rules limit far tag length place) tt }
 {
-    if !within(1, 6, wide8(tag)) {
-        return Verdict::Refused(Refusal::Malformed(place));
-    }
-    if length != length_of(tag) {
-        return Verdict::Refused(Refusal::Malformed(place));
-    }
-    if !follows(far.last, tag) {
-        return Verdict::Refused(Refusal::Malformed(place));
+    if Tag::try_from(tag).is_err() || length != length_of(tag) || !follows(far.last, tag) {
+        return Err(Refusal::Malformed(place));
     }
     if is_full(limit, far, tag) {
-        return Verdict::Refused(Refusal::TooMany(place));
+        return Err(Refusal::TooMany(place));
     }
-    Verdict::Clear
+    Ok(())
 }
 
 // The end of a file, at its length.
-pub fn judge_end(far: Far, end: usize) -> Verdict
-    ensures { ruled result ≡ judged (end_rules far end) tt }
+pub fn judge_end(far: Far, end: usize) -> Result<(), Refusal>
+    ensures { said result ≡ judged (end_rules far end) tt }
 {
-    if far.last < 4 {
-        return Verdict::Refused(Refusal::Malformed(end));
+    if far.last < Tag::Figures as u8 {
+        return Err(Refusal::Malformed(end));
     }
-    Verdict::Clear
+    Ok(())
 }

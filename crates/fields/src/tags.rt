@@ -1,0 +1,36 @@
+// The tags of a file's fields.
+ghost use Rattle.fields.specs.Tags.{Names};
+
+// The tags, by their bytes.
+#[derive(Clone, Copy, Debug, PartialEq, Eq)]
+pub enum Tag {
+    Year = 1,
+    Subject = 2,
+    Score = 3,
+    Figures = 4,
+    Student = 5,
+    Result = 6,
+}
+
+// A byte that no tag has.
+#[derive(Clone, Copy, Debug, PartialEq, Eq)]
+pub struct NoTag(pub u8);
+
+// 1 to 6, in the order above.
+impl TryFrom<u8> for Tag {
+    type Error = NoTag;
+
+    ghost try_from_gives = { Names };
+
+    fn try_from(byte: u8) -> Result<Tag, NoTag> {
+        match byte {
+            1 => Ok(Tag::Year),
+            2 => Ok(Tag::Subject),
+            3 => Ok(Tag::Score),
+            4 => Ok(Tag::Figures),
+            5 => Ok(Tag::Student),
+            6 => Ok(Tag::Result),
+            _ => Err(NoTag(byte)),
+        }
+    }
+}
