@@ -2,13 +2,12 @@
 use Prim.Native.Nat.{ℕ, ◌<◌, ◌≤◌}
 use mathlib.Core.Path.{◌≡◌, ap}
 use mathlib.Core.Bool.{not}
-use mathlib.Core.List.{List, [], ◌∷◌}
+use mathlib.Core.List.{List}
 use lib.ListN.{length, get_or}
 use borrow.Author.Tests.{lt-leb, le-ltb, ne_eqb}
 use Rattle.paper.specs.Limits.{slots, top_score, least_year, most_year}
 use Rattle.paper.specs.Words.{◌=?◌}
 use Rattle.paper.specs.Bytes.{byte, word, long}
-use Rattle.paper.specs.Rulings.{Rule, ◌⇒◌, ◌at◌}
 use Rattle.paper.proofs.Firsts.{none_has}
 use Rattle.paper.proofs.Ranging.{true_within}
 use Rattle.paper.proofs.Ruled.{Unbroken}
@@ -19,12 +18,8 @@ use Rattle.scores.specs.Scores.{absent, found}
 use Rattle.curve.specs.Population.{population_rules}
 use Rattle.held.specs.Held.{Held, ids_of}
 use Rattle.held.specs.Taking.{figures_in}
-use Rattle.held.specs.Judging.{given, all_at, holds_id, value_rules}
-
--- the places of rules do not matter to whether one is broken
-all_at_lem : (p : ℕ) (rules : List Rule) → Unbroken rules → Unbroken (all_at p rules)
-all_at_lem p [] u = tt
-all_at_lem p (test ⇒ number at place ∷ rules) u = (u.0, all_at_lem p rules u.1)
+use Rattle.held.specs.Judging.{given, holds_id, value_rules}
+use Rattle.held.proofs.Figures.{kept_at}
 
 module _ (held : Held) (v : List ℕ) (p : ℕ) where
   -- a field of the tag with this value
@@ -45,7 +40,7 @@ module _ (held : Held) (v : List ℕ) (p : ℕ) where
       (lt-leb _ _ known, (ap not (true_within 1 slots (byte v 2) low high), (le-ltb top_score (long v 3) top, (ap given free, tt))))
 
   pub figures-accepted : Unbroken (population_rules (figures_in v)) → Fine 4
-  figures-accepted = all_at_lem p (population_rules (figures_in v))
+  figures-accepted = kept_at p (population_rules (figures_in v))
 
   pub student-accepted : ((i : ℕ) → i < length (ids_of held.students) → get_or (ids_of held.students) i 0 ≡ long v 0 → ⊥) → Fine 5
   unfolding holds_id

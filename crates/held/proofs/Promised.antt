@@ -1,17 +1,20 @@
 -- The promise determines the answer and the buffers, and a computed answer meets it.
 use Prim.Native.Nat.{ℕ, ◌≤◌}
-use mathlib.Core.Path.{◌≡◌, refl, ap}
+use mathlib.Core.Path.{◌≡◌, refl}
 use mathlib.Core.Bool.{Bool, true, false}
 use mathlib.Core.List.{List, [], ◌∷◌}
+use Rattle.std.proofs.Common.{Result}
 use lib.ListN.{length}
 use lib.Dec.{eqb, ltb}
 use borrow.Author.Tests.{le-ltb}
 use Rattle.paper.specs.Limits.{most_results, most_bytes}
 use Rattle.paper.specs.Lists.{pick}
 use Rattle.paper.specs.Rulings.{Outcome, accepted, refused, ◌at◌}
-use Rattle.paper.specs.Promises.{Tells}
+use Rattle.paper.specs.Promises.{answer}
+use Rattle.paper.specs.declared.refusal.Refusal.{Refusal}
+use Rattle.paper.proofs.Said.{tells}
 use Rattle.paper.proofs.Promised as every
-use Rattle.paper.proofs.Ruled.{refusal-fault, Tabled, Refusing, refusing-mapped, tabled, tabled_join, tabled_pick}
+use Rattle.paper.proofs.Ruled.{Tabled, Refusing, refusing-mapped, tabled, tabled_join, tabled_pick}
 use Rattle.catalogue.specs.Catalogue.{subjects}
 use Rattle.fields.specs.Fields.{Field, Piece, whole, cut, pieces_of}
 use Rattle.fields.specs.Order.{order_rules, end_rules}
@@ -19,18 +22,9 @@ use Rattle.held.specs.Held.{Held, ids_of}
 use Rattle.held.specs.Taking.{figures_in}
 use Rattle.held.specs.Judging.{value_rules, year_rules, subject_rules, score_rules, figures_rules, student_rules}
 use Rattle.held.specs.Reading.{Reader, opened, passed, field_rules, after, read_all, ended, body, reading}
-use Rattle.held.specs.Promise.{said, summary_of, Lent, ruling, Promise, answer, left}
-use Rattle.held.specs.declared.Answer.{Answer}
-use Rattle.held.specs.declared.Answer.TheVariants.{Accepted, Refused}
+use Rattle.held.specs.Promise.{summary_of, Lent, ruling, Promise, left}
+use Rattle.held.specs.declared.Summary.{Summary}
 use Rattle.held.proofs.Figures.{ten-figures, ten-kept}
-
--- what is said tells the answer
-pub tells : Tells said Accepted Refused
-tells = record { accepting = λ v. refl; refusing = λ x. refl; told = same }
-  where
-    same : (r : Answer) → answer (said r) ≡ r
-    same (Accepted v) = refl
-    same (Refused x) = ap Refused (refusal-fault x)
 
 -- each rule that is broken gives a number and place of the paper's table
 told-value : (held : Held) (f : Field) (p : ℕ) → Tabled (value_rules held f p)
@@ -72,11 +66,11 @@ module _ (file : List ℕ) (before : Lent) where
   meets = every.meets tells every.rules_is every.owes_equal (refusing-mapped summary_of (reading file) (told-reading file))
 
   -- and no others
-  pub only : {r : Answer} {after : Lent} → Promise file before r after → (r ≡ answer (ruling file)) × (after ≡ left file before (ruling file))
+  pub only : {r : Result Summary Refusal} {after : Lent} → Promise file before r after → (r ≡ answer (ruling file)) × (after ≡ left file before (ruling file))
   only = every.only tells every.rules_is every.owes_equal
 
   -- two permitted results are equal
-  pub determined : {r s : Answer} {after after' : Lent} → Promise file before r after → Promise file before s after' → (r ≡ s) × (after ≡ after')
+  pub determined : {r s : Result Summary Refusal} {after after' : Lent} → Promise file before r after → Promise file before s after' → (r ≡ s) × (after ≡ after')
   determined = every.determined tells every.rules_is every.owes_equal
 
 -- of a file that is not too long, what its fields come to

@@ -1,21 +1,14 @@
 -- What the reader promises, for every file.
-use Rattle.std.specs.Prelude.{ℕ, ◌≡◌, List, length}
+use Rattle.std.specs.Prelude.{ℕ, ◌≡◌, List, length, Result}
 use Rattle.paper.specs.Parts.{laid}
-use Rattle.paper.specs.Rulings.{Outcome, accepted, refused, mapped, values_or}
-use Rattle.paper.specs.Refusals.{fault}
-use Rattle.paper.specs.Promises.{Promised, Is, answered, filled}
+use Rattle.paper.specs.Rulings.{Outcome, mapped, values_or}
+use Rattle.paper.specs.Promises.{Promised, Is, said, filled}
+use Rattle.paper.specs.declared.refusal.Refusal.{Refusal}
 use Rattle.catalogue.specs.Catalogue.{subjects}
 use Rattle.curve.specs.Population.{Y, rate}
 use Rattle.held.specs.Held.{Held, nothing, ids_of, counts_of, results_of}
 use Rattle.held.specs.Reading.{reading}
 use Rattle.held.specs.declared.Summary.{Summary}
-use Rattle.held.specs.declared.Answer.{Answer}
-use Rattle.held.specs.declared.Answer.TheVariants.{Accepted, Refused}
-
--- the paper's values, or number and place, of each case of the answer
-abbrev pub said : Answer → Outcome Summary
-said (Accepted v) = accepted v
-said (Refused x) = refused (fault x)
 
 -- the year; how many subjects and students there are; Y and r
 abbrev pub summary_of : Held → Summary
@@ -59,12 +52,9 @@ abbrev pub holding : List ℕ → Lent → Lent
 holding file before = written (values_or nothing (reading file)) before
 
 -- file, the buffers before, the answer, the buffers after: accepted, they hold what is held
-abbrev pub Promise : List ℕ → Lent → Answer → Lent → Type 0
+abbrev pub Promise : List ℕ → Lent → Result Summary Refusal → Lent → Type 0
 Promise file before r after = Promised said (Is (ruling file)) (λ v lent. lent ≡ holding file before) before r after
 
--- the answer and the buffers of an outcome, computed
-abbrev pub answer : Outcome Summary → Answer
-answer = answered Accepted Refused
-
+-- the buffers of an outcome, computed
 abbrev pub left : List ℕ → Lent → Outcome Summary → Lent
 left file before = filled (λ v. holding file before) before

@@ -1,8 +1,6 @@
 // What a cohort file is, what it holds and what its reader promises: definitions, theorems and values, and no function.
 #![tactic(auto)]
 
-use paper::refusal::Refusal;
-
 // What is told of a file: the year, the numbers of subjects and students, Y and r.
 #[derive(Clone, Copy)]
 pub struct Summary {
@@ -11,11 +9,4 @@ pub struct Summary {
     pub students: usize,
     pub population: u32,
     pub rate: u32,
-}
-
-// That, or what is wrong.
-#[derive(Clone, Copy)]
-pub enum Answer {
-    Accepted(Summary),
-    Refused(Refusal),
 }
