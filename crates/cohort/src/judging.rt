@@ -4,16 +4,17 @@ ghost use Rattle.paper.specs.Limits.{most_subjects};
 ghost use Rattle.paper.specs.Bytes.{byte, word};
 ghost use Rattle.paper.specs.Rulings.{◌at◌, number_of, judged};
 ghost use Rattle.paper.specs.Refusals.{fault};
-ghost use Rattle.paper.specs.Screening.{ruled};
+ghost use Rattle.paper.specs.Promises.{said};
 ghost use Rattle.held.specs.Held.{Held};
 ghost use Rattle.held.specs.Judging.{year_rules, subject_rules, score_rules, figures_rules, student_rules, value_rules};
 ghost use Rattle.cohort.specs.Inner.{verdict_on, field_of, Marks, Seen};
 ghost use Rattle.cohort.specs.InnerValues.{nine_or_ten, Slotted, slot_place, is_marked, marks_with};
 
-use crate::{parts, values};
+use crate::values;
 use catalogue::entries;
 use fields::heads::{HEAD_BYTES, Head};
 use fields::order::Far;
+use fields::tags::Tag;
 use fields::{heads, order};
 use paper::bytes;
 use paper::limits::{
@@ -21,27 +22,32 @@ use paper::limits::{
 };
 use paper::ranges::within;
 use paper::refusal::Refusal;
-use paper::screening::Verdict;
-use paper::widening::{wide8, wide16};
+
+// What is noted of the fields before: the slots that have their score, one byte to a slot, and the ids.
+#[derive(Drop)]
+struct Noted {
+    marks: [u8; MOST_SLOTS],
+    ids: [u32; MOST_STUDENTS],
+}
 
 // Tag 1, the year.
-fn judge_year(place: usize, value: &[u8]) -> Verdict
-    ensures { ruled result ≡ judged (year_rules value.now place) tt }
+fn judge_year(place: usize, value: &[u8]) -> Result<(), Refusal>
+    ensures { said result ≡ judged (year_rules value.now place) tt }
 {
-    if !within(LEAST_YEAR, MOST_YEAR, wide16(bytes::word_at(value, 0))) {
-        return Verdict::Refused(Refusal::WrongYear(place));
+    if !within(LEAST_YEAR, MOST_YEAR, u64::from(bytes::word_at(value, 0))) {
+        return Err(Refusal::WrongYear(place));
     }
-    Verdict::Clear
+    Ok(())
 }
 
 // Tag 2, a catalogue entry.
-fn judge_subject(place: usize, value: &[u8]) -> Verdict
-    ensures { ruled result ≡ judged (subject_rules value.now place) tt }
+fn judge_subject(place: usize, value: &[u8]) -> Result<(), Refusal>
+    ensures { said result ≡ judged (subject_rules value.now place) tt }
 {
     if entries::is_outside(entries::entry_at(value, 0)) {
-        return Verdict::Refused(Refusal::WrongSubject(place));
+        return Err(Refusal::WrongSubject(place));
     }
-    Verdict::Clear
+    Ok(())
 }
 
 // The place of a slot in the marks, one byte to a slot.
@@ -49,7 +55,7 @@ fn slot_place(subject: usize, slot: u8) -> usize
     requires { Slotted subject slot }
     ensures { result ≡ slot_place subject slot }
 {
-    subject * SLOTS + (slot as usize - 1)
+    subject * SLOTS + (usize::from(slot) - 1)
 }
 
 // Whether a slot has its score: it is marked.
@@ -65,33 +71,36 @@ fn mark(tag: u8, value: &[u8], marks: &mut [u8; MOST_SLOTS])
     requires { tag ≡ 3 → Slotted (word value.now 0) (byte value.now 2) }
     ensures { marks.new ≡ marks_with tag value.now marks.old }
 {
-    if tag == 3 {
-        let place = slot_place(bytes::word_at(value, 0) as usize, bytes::byte_at(value, 2));
+    if let Ok(Tag::Score) = Tag::try_from(tag) {
+        let subject = usize::from(bytes::word_at(value, 0));
+        let place = slot_place(subject, bytes::byte_at(value, 2));
         marks[place] = 1;
     }
 }
 
 // Tag 3, a score, by the subjects and the marks before it.
-fn judge_score(place: usize, value: &[u8], subjects: usize, marks: &[u8; MOST_SLOTS]) -> Verdict
+fn judge_score(
+    place: usize,
+    value: &[u8],
+    subjects: usize,
+    marks: &[u8; MOST_SLOTS],
+) -> Result<(), Refusal>
     requires { subjects ≤ most_subjects }
     ensures { (table : List ℕ) → Marks table marks.now
-        → ruled result ≡ judged (score_rules subjects table value.now place) tt }
+        → said result ≡ judged (score_rules subjects table value.now place) tt }
 {
-    let subject = bytes::word_at(value, 0) as usize;
+    let subject = usize::from(bytes::word_at(value, 0));
     if subjects <= subject {
-        return Verdict::Refused(Refusal::WrongSubject(place));
+        return Err(Refusal::WrongSubject(place));
     }
     let slot = bytes::byte_at(value, 2);
-    if !within(1, SLOTS as u64, wide8(slot)) {
-        return Verdict::Refused(Refusal::WrongScore(place));
-    }
-    if TOP_SCORE < bytes::long_at(value, 3) {
-        return Verdict::Refused(Refusal::WrongScore(place));
+    if !within(1, SLOTS as u64, u64::from(slot)) || TOP_SCORE < bytes::long_at(value, 3) {
+        return Err(Refusal::WrongScore(place));
     }
     if is_given(marks, subject, slot) {
-        return Verdict::Refused(Refusal::Again(place));
+        return Err(Refusal::Again(place));
     }
-    Verdict::Clear
+    Ok(())
 }
 
 // 9 or 10, at the field's offset. Ten figures are refused for nothing else: `nine-or_ten` (proofs/Populated.antt).
@@ -105,80 +114,66 @@ fn moved(x: Refusal, place: usize) -> Refusal
 }
 
 // Tag 4, the figures Q16..Q20, E16..E20.
-fn judge_figures(place: usize, value: &[u8]) -> Verdict
-    ensures { ruled result ≡ judged (figures_rules value.now place) tt }
+fn judge_figures(place: usize, value: &[u8]) -> Result<(), Refusal>
+    ensures { said result ≡ judged (figures_rules value.now place) tt }
 {
-    let mut figures = [0u32; FIGURE_COUNT];
+    let mut figures = [0; FIGURE_COUNT];
     values::read_figures(value, &mut figures);
-    let answer = curve::population(&figures);
-    match answer {
-        curve::Answer::Refused(x) => Verdict::Refused(moved(x, place)),
-        curve::Answer::Accepted {
-            population: _,
-            rate: _,
-        } => Verdict::Clear,
-    }
+    curve::population(&figures).map_err(|x| moved(x, place))?;
+    Ok(())
 }
 
 // Tag 5, a student, by the ids before it.
-fn judge_student(place: usize, value: &[u8], ids: &[u32]) -> Verdict
-    ensures { ruled result ≡ judged (student_rules ids.now value.now place) tt }
+fn judge_student(place: usize, value: &[u8], ids: &[u32]) -> Result<(), Refusal>
+    ensures { said result ≡ judged (student_rules ids.now value.now place) tt }
 {
-    if parts::holds_id(ids, bytes::long_at(value, 0)) {
-        return Verdict::Refused(Refusal::Again(place));
+    if ids.contains(&bytes::long_at(value, 0)) {
+        return Err(Refusal::Again(place));
     }
-    Verdict::Clear
+    Ok(())
 }
 
-// The values of a field, by what is noted of those before it: the marks, and the ids.
-fn judge_values(
-    place: usize,
-    tag: u8,
-    value: &[u8],
-    far: Far,
-    marks: &[u8; MOST_SLOTS],
-    ids: &[u32],
-) -> Verdict
-    requires { (far.subjects ≤ most_subjects) × (far.students ≤ length ids.now) }
-    ensures { (held : Held) → Seen far held marks.now ids.now
-        → ruled result ≡ judged (value_rules held (field_of tag value.now) place) tt }
+// The values of a field, by what is noted.
+fn judge_values(place: usize, tag: u8, value: &[u8], far: Far, noted: &Noted) -> Result<(), Refusal>
+    requires { (far.subjects ≤ most_subjects) × (far.students ≤ length noted.now.ids) }
+    ensures { (held : Held) → Seen far held noted.now.marks noted.now.ids
+        → said result ≡ judged (value_rules held (field_of tag value.now) place) tt }
 {
-    let students = far.students;
-    match tag {
-        1 => judge_year(place, value),
-        2 => judge_subject(place, value),
-        3 => judge_score(place, value, far.subjects, marks),
-        4 => judge_figures(place, value),
-        5 => judge_student(place, value, &ids[..students]),
-        _ => Verdict::Clear,
+    match Tag::try_from(tag) {
+        Ok(Tag::Year) => judge_year(place, value),
+        Ok(Tag::Subject) => judge_subject(place, value),
+        Ok(Tag::Score) => judge_score(place, value, far.subjects, &noted.marks),
+        Ok(Tag::Figures) => judge_figures(place, value),
+        Ok(Tag::Student) => judge_student(place, value, &noted.ids[..far.students]),
+        // Results are judged with their student.
+        Ok(Tag::Result) | Err(_) => Ok(()),
     }
 }
 
 // All fields, and the end: for 1 and 2 by how far the file is read, for its values by what is noted.
-pub(crate) fn judge(file: &[u8]) -> Verdict
-    ensures { ruled result ≡ verdict_on file.now }
+pub(crate) fn judge(file: &[u8]) -> Result<(), Refusal>
+    ensures { said result ≡ verdict_on file.now }
 {
-    let mut marks = [0u8; MOST_SLOTS];
-    let mut ids = [0u32; MOST_STUDENTS];
-    let mut far = order::start();
-    let mut at: usize = 0;
+    let mut noted = Noted {
+        marks: [0; MOST_SLOTS],
+        ids: [0; MOST_STUDENTS],
+    };
+    let mut far = Far::default();
+    let mut at = 0;
+    // The next place is past the field's value, so this is no `for`.
     while at < file.len() {
-        let Head::Whole { tag, length } = heads::head_at(file, at) else {
-            return Verdict::Refused(Refusal::Malformed(at));
+        let Some(Head { tag, length }) = heads::head_at(file, at) else {
+            return Err(Refusal::Malformed(at));
         };
-        if let Verdict::Refused(x) = order::judge(MOST_RESULTS, far, tag, length, at) {
-            return Verdict::Refused(x);
-        }
-        let a = at + HEAD_BYTES;
-        let e = a + length;
-        let value = &file[a..e];
-        if let Verdict::Refused(x) = judge_values(at, tag, value, far, &marks, &ids) {
-            return Verdict::Refused(x);
-        }
-        mark(tag, value, &mut marks);
-        values::note_id(far, tag, value, &mut ids);
+        order::judge(MOST_RESULTS, far, tag, length, at)?;
+        let start = at + HEAD_BYTES;
+        let end = start + length;
+        let value = &file[start..end];
+        judge_values(at, tag, value, far, &noted)?;
+        mark(tag, value, &mut noted.marks);
+        values::note_id(far, tag, value, &mut noted.ids);
         far = order::further(far, tag);
-        at = e;
+        at = end;
     }
     order::judge_end(far, file.len())
 }

@@ -1,19 +1,22 @@
 // The taking pass: what the fields of a file hold is laid into lent buffers, and nothing is judged.
-ghost use Rattle.std.specs.Prelude.{◌≡◌, ◌+◌, ◌-◌, ◌*◌, set};
+ghost use Rattle.std.specs.Prelude.{◌≡◌, ◌+◌, ◌-◌, ◌*◌, ◌≤◌, length, set};
 ghost use Rattle.paper.specs.Limits.{result_bytes};
 ghost use Rattle.paper.specs.Bytes.{byte, word, long};
 ghost use Rattle.paper.specs.Parts.{laid};
+ghost use Rattle.paper.specs.Rulings.{accepted};
 ghost use Rattle.scores.specs.Rows.{stored};
 ghost use Rattle.curve.specs.Population.{population_rules};
 ghost use Rattle.held.specs.Taking.{figures_in};
 ghost use Rattle.held.specs.Promise.{lent};
-ghost use Rattle.cohort.specs.Inner.{Ready, Whole};
+ghost use Rattle.cohort.specs.Inner.{verdict_on, Whole};
 ghost use Rattle.cohort.specs.InnerValues.{NoneBroken, table_with, figures_to, result_to, numbers_with, rest, rest_with, Room, ResultRoom};
 
 use crate::steps::SoFar;
-use crate::{parts, steps, values};
+use crate::values;
+use curve::Participation;
 use fields::heads::{HEAD_BYTES, Head};
 use fields::order::Far;
+use fields::tags::Tag;
 use fields::{heads, order};
 use paper::bytes;
 use paper::limits::{
@@ -23,11 +26,20 @@ use paper::limits::{
 use scores::rows;
 use scores::slots::{Raw, Scaled};
 
+// Lays a value into a buffer, from a place on.
+fn lay(buffer: &mut [u8], place: usize, value: &[u8])
+    requires { place + length value.now ≤ length buffer.old }
+    ensures { buffer.new ≡ laid buffer.old place value.now }
+{
+    let end = place + value.len();
+    buffer[place..end].copy_from_slice(value);
+}
+
 // A score, in its slot of the subject's row.
 fn store_score(value: &[u8], table: &mut [u8])
     ensures { table.new ≡ stored table.old (word value.now 0) (byte value.now 2) (long value.now 3) }
 {
-    let subject = bytes::word_at(value, 0) as usize;
+    let subject = usize::from(bytes::word_at(value, 0));
     let slot = bytes::byte_at(value, 2);
     let score = bytes::long_at(value, 3);
     rows::store(table, subject, Raw(slot), Scaled(score));
@@ -37,9 +49,9 @@ fn store_score(value: &[u8], table: &mut [u8])
 fn take_scores(far: Far, tag: u8, value: &[u8], table: &mut [u8; TABLE_BYTES])
     ensures { table.new ≡ table_with far tag value.now table.old }
 {
-    match tag {
-        2 => rows::clear(table, far.subjects),
-        3 => store_score(value, table),
+    match Tag::try_from(tag) {
+        Ok(Tag::Subject) => rows::clear(table, far.subjects),
+        Ok(Tag::Score) => store_score(value, table),
         _ => {}
     }
 }
@@ -50,16 +62,14 @@ fn take_figures(value: &[u8], so: SoFar, figures: &mut [u32; FIGURE_COUNT]) -> S
     ensures { (result ≡ figures_to so value.now) × (figures.new ≡ figures_in value.now) }
 {
     values::read_figures(value, figures);
-    let answer = curve::population(figures);
-    match answer {
+    match curve::population(figures) {
+        Ok(Participation { population, rate }) => SoFar {
+            population,
+            rate,
+            ..so
+        },
         // Figures that were judged are not refused.
-        curve::Answer::Refused(_) => so,
-        curve::Answer::Accepted { population, rate } => {
-            let mut next = so;
-            next.population = population;
-            next.rate = rate;
-            next
-        }
+        Err(_) => so,
     }
 }
 
@@ -75,12 +85,12 @@ fn take_result(
         × (counts.new ≡ set counts.old (so.far.students - 1) (so.far.latest + 1))
         × (results.new ≡ laid results.old (so.results * result_bytes) value.now) }
 {
-    let k = so.far.students - 1;
-    counts[k] = (so.far.latest + 1) as u8;
-    parts::lay(results, so.results * RESULT_BYTES, value);
-    let mut next = so;
-    next.results = so.results + 1;
-    next
+    counts[so.far.students - 1] = (so.far.latest + 1) as u8;
+    lay(results, so.results * RESULT_BYTES, value);
+    SoFar {
+        results: so.results + 1,
+        ..so
+    }
 }
 
 // A field of a judged file: the numbers, and the buffers beside the score table and the ids.
@@ -98,28 +108,27 @@ fn take_field(
         × (rest catalogue.new figures.new counts.new results.new
         ≡ rest_with so tag value.now (rest catalogue.old figures.old counts.old results.old)) }
 {
-    let students = so.far.students;
-    match tag {
-        1 => {
-            let mut next = so;
-            next.year = bytes::word_at(value, 0);
-            next
-        }
-        2 => {
-            parts::lay(catalogue, so.far.subjects * ENTRY_BYTES, value);
+    match Tag::try_from(tag) {
+        Ok(Tag::Year) => SoFar {
+            year: bytes::word_at(value, 0),
+            ..so
+        },
+        Ok(Tag::Subject) => {
+            lay(catalogue, so.far.subjects * ENTRY_BYTES, value);
             so
         }
-        4 => take_figures(value, so, figures),
-        5 => {
-            counts[students] = 0;
+        Ok(Tag::Figures) => take_figures(value, so, figures),
+        Ok(Tag::Student) => {
+            counts[so.far.students] = 0;
             so
         }
-        6 => take_result(value, so, counts, results),
-        _ => so,
+        Ok(Tag::Result) => take_result(value, so, counts, results),
+        Ok(Tag::Score) | Err(_) => so,
     }
 }
 
-// All fields of a file that is accepted.
+// All fields of a file that is accepted. The buffers are six parameters: a struct of them is no plainer, for each function that takes it
+// has to promise of each buffer that it stays the same reference.
 pub(crate) fn take(
     file: &[u8],
     catalogue: &mut [u8; CATALOGUE_BYTES],
@@ -129,27 +138,28 @@ pub(crate) fn take(
     counts: &mut [u8; MOST_STUDENTS],
     results: &mut [u8; RESULTS_BYTES],
 ) -> SoFar
-    requires { Ready file.now table.old figures.old ids.old counts.old }
+    requires { verdict_on file.now ≡ accepted tt }
     ensures { Whole file.now
         (lent catalogue.old table.old figures.old ids.old counts.old results.old) result
         (lent catalogue.new table.new figures.new ids.new counts.new results.new) }
 {
-    let mut so = steps::start();
-    let mut at: usize = 0;
+    let mut so = SoFar::default();
+    let mut at = 0;
+    // The next place is past the field's value, so this is no `for`.
     while at < file.len() {
-        let Head::Whole { tag, length } = heads::head_at(file, at) else {
+        let Some(Head { tag, length }) = heads::head_at(file, at) else {
             // No field of an accepted file is cut short.
             return so;
         };
         let far = so.far;
-        let a = at + HEAD_BYTES;
-        let e = a + length;
-        let value = &file[a..e];
+        let start = at + HEAD_BYTES;
+        let end = start + length;
+        let value = &file[start..end];
         take_scores(far, tag, value, table);
         values::note_id(far, tag, value, ids);
         so = take_field(so, tag, value, catalogue, figures, counts, results);
         so.far = order::further(far, tag);
-        at = e;
+        at = end;
     }
     so
 }

@@ -8,7 +8,7 @@ use Rattle.cohort.proofs.judging.judge.Given as goal
 
 -- the fields before the offset are read, the marks are the slots that have their score, and the ids note the students
 abbrev pub invariant-loop-at : goal.invariant-loop-at
-invariant-loop-at l = (held : Held) × Reached l.file l.far held l.at × Marked held.table l.marks × Begins most_students (ids_of held.students) l.initial.ids l.ids
+invariant-loop-at l = (held : Held) × Reached l.file l.far held l.at × Marked held.table l.noted.marks × Begins most_students (ids_of held.students) l.initial.noted.ids l.noted.ids
 
 abbrev pub decreases-loop-at : goal.decreases-loop-at
 decreases-loop-at l = length l.file - l.at
