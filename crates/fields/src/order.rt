@@ -13,7 +13,8 @@ use paper::limits::{
 use paper::ranges::within;
 use paper::refusal::Refusal;
 
-// The last field's tag, the numbers of subjects and students, and of the latest student's results: none before the first field.
+// The last field's tag, a byte as the definitions have it, 0 before the first field; the numbers of subjects and students, and of the
+// latest student's results.
 #[derive(Clone, Copy, Default)]
 pub struct Far {
     pub last: u8,
