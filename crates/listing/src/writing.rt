@@ -1,4 +1,4 @@
-// A line, and what is written at its end. What a line has no room for is left out.
+// A line, and what is written at its end. A part that a line has no room for is left out.
 ghost use Rattle.std.specs.Prelude.{◌≡◌, [], ◌∷◌, ◌≤◌, length};
 ghost use Rattle.listing.specs.Text.{digit, digits, decimals2, decimals3, atar};
 ghost use Rattle.listing.specs.Lines.{file_line, shown};
@@ -11,6 +11,7 @@ use paper::units::{HUNDREDTHS, THOUSANDTHS};
 // The bytes that a line has room for.
 pub const LINE_BYTES: usize = 64;
 
+// What is written so far.
 #[derive(Drop)]
 pub struct Line {
     bytes: ArrayVec<u8, LINE_BYTES>,
@@ -19,7 +20,7 @@ pub struct Line {
 // The highest band whose ATAR is not told as a number.
 const LOW_BAND: u16 = 600;
 
-// Parts, and no `write!`: that answers a Result, no clause says when it is Ok, and a line is made whatever comes.
+// A line is made of parts and not by `write!`, which answers a Result that no clause shows to be Ok: a line cannot fail.
 impl Line {
     pub(crate) fn new() -> Line
         ensures { shown result ≡ [] }
