@@ -33,7 +33,6 @@ use Rattle.fields.specs.Fields.{Piece, whole, pieces_of}
 use Rattle.held.specs.Taking.{new_row}
 use Rattle.held.specs.Judging.{holds_id}
 use Rattle.held.specs.Reading.{Reader, opened, after, read_all, ended, body, reading}
-use Rattle.listing.specs.Inner.{padded}
 use Rattle.listing.specs.Text.{digits_in, digits, atar}
 use Rattle.printed.specs.Report.{outcome, aggregates_of, lines_of, text_of_outcome, text_of}
 use Rattle.office.specs.Office.{row, opening, closing, office, held, listing}
@@ -156,7 +155,7 @@ read = ap (λ (ps : List Piece). ended (length office) (read_all ps (accepted op
 
 -- what it holds is listed
 pub told : text_of_outcome (accepted held) ≡ listing
-unfolding slots_from word_bytes long_bytes sum count first sum_of listed nearest in_turn word long outside found slot_of ones_from sum_over count_over score_found scoreOf usable usable_at shows_english kept wrong unscored repeated admissible earlier chosen aggregate_of S E lower upper entry table_of ranks_of percentiles_of places remainder band_up_to bands_of padded digits_in digits atar outcome aggregates_of lines_of
+unfolding slots_from word_bytes long_bytes sum count first sum_of listed nearest in_turn word long outside found slot_of ones_from sum_over count_over score_found scoreOf usable usable_at shows_english kept wrong unscored repeated admissible earlier chosen aggregate_of S E lower upper entry table_of ranks_of percentiles_of places remainder band_up_to bands_of digits_in digits atar outcome aggregates_of lines_of
 told = refl
 
 -- the paper's listing, byte for byte
