@@ -16,7 +16,7 @@ use Rattle.seek.specs.Sets.{In, positions, sum_over}
 use Rattle.results.specs.Results.{Student, held, result}
 use Rattle.results.specs.Scoring.{score_found, worth, score, score_at}
 use Rattle.results.specs.Counting.{usable, usable_at, later, kept}
-use Rattle.results.specs.declared.reading.Result.{Result}
+use Rattle.results.specs.declared.reading.StudentResult.{StudentResult}
 use Rattle.results.proofs.Scores.{score-most}
 use Rattle.sets.specs.Admissible.{Admissible}
 use Rattle.sets.specs.Rules.{is_score, unscored, same_year, repeated}
@@ -26,13 +26,13 @@ use Rattle.sets.proofs.Formed.{rules_kept, usable-held}
 use Rattle.sets.proofs.Rounding.{rounded-most}
 
 -- the slot of a result holds a score of at most the greatest, and this is what the result counts
-pub record Scored (table : List ℕ) (r : Result) : Type 0 where
+pub record Scored (table : List ℕ) (r : StudentResult) : Type 0 where
   pub value : ℕ
   pub holds : score_found table r ≡ scaled value
   pub counts : score table r ≡ value
   pub most : value ≤ top_score
 
-not_unscored : (table : List ℕ) (r : Result) → usable r ≡ true → unscored table r ≡ false → Scored table r
+not_unscored : (table : List ℕ) (r : StudentResult) → usable r ≡ true → unscored table r ≡ false → Scored table r
 unfolding unscored score
 not_unscored table r u e = go (score_found table r) refl (sym (first-true (usable r) (not (is_score (score_found table r))) u) ∙ e)
   where

@@ -12,16 +12,16 @@ use Rattle.scores.specs.Scores.{Found, scaled, absent, too_high}
 use Rattle.results.specs.Results.{Student, held, result}
 use Rattle.results.specs.Scoring.{score_found}
 use Rattle.results.specs.Counting.{usable, usable_at, same_subject}
-use Rattle.results.specs.declared.reading.Result.{Result}
+use Rattle.results.specs.declared.reading.StudentResult.{StudentResult}
 
 -- VET: Y or N, number 0; the others: letter A to E, with number 1 to 100 for kinds 1 to 3, and 0 for kinds 4 and 5
-abbrev pub grade_fits : Result → Bool
+abbrev pub grade_fits : StudentResult → Bool
 grade_fits r =
     when is_vet r.entry.kind then (r.letter =? letter_y || r.letter =? letter_n) && r.number =? 0
     else within letter_a letter_e r.letter && (when is_general r.entry.kind then within 1 slots r.number else r.number =? 0)
 
 -- letter, number or year wrong for the kind, in an assessment year: the year is 1980 to that
-unfoldable pub wrong : ℕ → Result → Bool
+unfoldable pub wrong : ℕ → StudentResult → Bool
 wrong year r = not (grade_fits r && within first_year year r.year)
 
 -- what is found is a score
@@ -31,7 +31,7 @@ is_score absent = false
 is_score too_high = false
 
 -- table, result: a usable result with a missing slot or one over the greatest score
-unfoldable pub unscored : List ℕ → Result → Bool
+unfoldable pub unscored : List ℕ → StudentResult → Bool
 unscored table r = usable r && not (is_score (score_found table r))
 
 -- student, table, i: of result i. 3: subject not in the catalogue; 4: letter, number or year wrong for the kind; 5: a usable result without a score
