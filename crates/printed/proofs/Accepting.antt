@@ -4,7 +4,7 @@ use native.Mathlib.Omega.{arith}
 use mathlib.Core.Path.{◌≡◌, refl, ap, subst, ◌∙◌}
 use mathlib.Core.Bool.{Bool, false}
 use mathlib.Core.List.{List}
-use Rattle.std.proofs.Common.{Result, Ok, Err}
+use Rattle.std.proofs.Common.{Result, Ok}
 use lib.ListN.{length, get_or}
 use borrow.Author.Tests.{le-ltb, eq-eqb}
 use Rattle.paper.specs.Limits.{most_aggregate, band_count, most_students, most_values, most_population, most_entry, least_rate, most_rate}
@@ -41,14 +41,6 @@ module _ (rate population : ℕ) (p : Populated rate population) where
 
   pub table_long : (before : List ℕ) → length (drawn rate before) ≡ band_count
   table_long before = ap length (table-drawn before) ∙ shape.long
-
--- the remainder of an answer, 0 of a refusal
-abbrev pub remainder_in : Result ℕ Refusal → ℕ
-remainder_in (Ok n) = n
-remainder_in (Err x) = 0
-
-pub placed-once : (n : ℕ) (x : Refusal) → ◌≡◌ {A = Result ℕ Refusal} (Ok n) (Err x) → ⊥
-placed-once n x e = absurd (let z : ◌≡◌ {A = ℕ} 0 1 = cc in omega arith)
 
 module _ (rate population : ℕ) (aggregates : List ℕ) (p : Cohort aggregates rate population) where
   pub ranks-accept : (ranks percentiles : List ℕ) → length ranks ≡ length aggregates → length percentiles ≡ length aggregates → ranksRuling aggregates (lent ranks percentiles) ≡ accepted tt

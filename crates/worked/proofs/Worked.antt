@@ -41,7 +41,9 @@ use Rattle.placements.specs.Bands.{bands_of}
 use Rattle.placements.specs.Promise.{direct_rules, together_rules, Lent, TogetherPromise}
 use Rattle.placements.specs.Given.{LentFor}
 use Rattle.placements.proofs.ByHand.{full-within}
-use Rattle.placements.proofs.Promised.{tells, owes, together-owes}
+use Rattle.std.proofs.Common.{Result}
+use Rattle.paper.proofs.Said.{tells}
+use Rattle.placements.proofs.Promised.{owes, together-owes}
 use Rattle.worked.specs.Called.{Rated, Placed, alone, with_table, directly, ranked}
 use Rattle.worked.specs.Example.{counted, at_rate, atar_of, aggregate_in, Answers, Example, best-set◌by◌is◌, figures◌give◌, rate◌band◌has◌, aggregates◌by◌of◌get◌leaving◌, cohort◌by◌and◌of◌have◌rank◌get◌leaving◌, Holds, All}
 use Rattle.worked.specs.Worked.{examples}

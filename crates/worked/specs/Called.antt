@@ -1,5 +1,5 @@
 -- What two entries can answer: what meets the promise of the one or of the other, whatever the lent buffers hold before.
-use Rattle.std.specs.Prelude.{ℕ, ◌≡◌, List, length}
+use Rattle.std.specs.Prelude.{ℕ, ◌≡◌, List, length, Result}
 use Rattle.paper.specs.Limits.{band_count}
 use Rattle.curve.specs.Promise.{PopulationPromise, Promise as CurvePromise}
 use Rattle.paper.specs.declared.refusal.Refusal.{Refusal}

@@ -1,5 +1,5 @@
 -- An example: what is asked of which entry, and the answer.
-use Rattle.std.specs.Prelude.{ℕ, ◌+◌, ◌*◌, ◌^◌, ◌≡◌, List, [], ◌∷◌, map, length, get_or}
+use Rattle.std.specs.Prelude.{Result, ℕ, ◌+◌, ◌*◌, ◌^◌, ◌≡◌, List, [], ◌∷◌, map, length, get_or}
 use Rattle.paper.specs.Limits.{band_count, band_step}
 use Rattle.paper.specs.Rulings.{Outcome, accepted, values_or}
 use Rattle.results.specs.Results.{Student}

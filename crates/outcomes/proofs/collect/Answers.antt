@@ -19,12 +19,12 @@ module _ (c : After-best_at-answer) where
   same_count : get_or c.loop-i.counts c.loop-i.i 0 ≡ get_or c.args.counts.now c.loop-i.i 0
   same_count = c.loop-i.invariant.6 c.loop-i.i (le_refl c.loop-i.i)
 
-  few_results : get_or c.loop-i.counts c.loop-i.i 0 ≤ most_results
-  few_results = omega (arith, same_count, c.requires.few.each c.loop-i.i (omega (arith, c.loop-i.invariant.4, c.loop-i-test.true)))
+  few_results : c.from-count.result ≤ most_results
+  few_results = omega (arith, c.from-count.ensures, same_count, c.requires.few.each c.loop-i.i (omega (arith, c.loop-i.invariant.4, c.loop-i-test.true)))
 
   -- its outcome, and the place of its refusal, which is a byte
   told_here : said c.best_at-answer.result ≡ outcome_at c.args.catalogue.now c.args.table.now c.args.year c.args.results.now c.loop-i.place (get_or c.args.counts.now c.loop-i.i 0)
-  told_here = c.best_at-answer.ensures ∙ ap (outcome_at c.args.catalogue.now c.args.table.now c.args.year c.args.results.now c.loop-i.place) same_count
+  told_here = c.best_at-answer.ensures ∙ ap (outcome_at c.args.catalogue.now c.args.table.now c.args.year c.args.results.now c.loop-i.place) (c.from-count.ensures ∙ same_count)
 
   place-fits : place_in (said c.best_at-answer.result) < 256
   place-fits =
@@ -32,7 +32,7 @@ module _ (c : After-best_at-answer) where
       omega (
         arith,
         ap place_in c.best_at-answer.ensures,
-        place_short a.catalogue.now a.table.now a.year a.results.now c.loop-i.place (get_or c.loop-i.counts c.loop-i.i 0) c.requires.few_subjects few_results,
+        place_short a.catalogue.now a.table.now a.year a.results.now c.loop-i.place c.from-count.result c.requires.few_subjects few_results,
       )
 
 pub loop-i-init : goal.loop-i-init
@@ -44,7 +44,7 @@ loop-i-init c =
 pub overflow_cast-places : goal.overflow_cast-places
 overflow_cast-places c =
     let w = place-fits (goal.at.overflow_cast-places c).After-best_at-answer in
-    let e = c.place_in.ensures in
+    let e = c.refusal_in-number.ensures.1 in
     search rules
 
 pub loop-i-preserved : goal.loop-i-preserved
@@ -57,9 +57,9 @@ loop-i-preserved c =
     let few = few_results s in
     let inside = c.loop-i-test.true in
     let join = c.join-eligible in
-    let number = c.number_in.result in
-    let place = c.place_in.result in
-    let g = gathered_more l.invariant.7 o join.new.aggregates join.result number place (omega (arith, l.invariant.4)) (omega (arith, p.few.students, l.invariant.3)) (omega arith) (omega (arith, l.invariant.4, l.invariant.5)) (told_here s) join.ensures.0 join.ensures.1 c.number_in.ensures c.place_in.ensures in (
+    let number = c.refusal_in-number.result.0 in
+    let place = c.refusal_in-number.result.1 in
+    let g = gathered_more l.invariant.7 o join.new.aggregates join.result number place (omega (arith, l.invariant.4)) (omega (arith, p.few.students, l.invariant.3)) (omega arith) (omega (arith, l.invariant.4, l.invariant.5)) (told_here s) join.ensures.0 join.ensures.1 c.refusal_in-number.ensures.0 c.refusal_in-number.ensures.1 in (
       omega (arith, l.invariant.4),
       omega (arith, few),
       omega (arith, join.ensures.1, after-most l.eligible o),
@@ -67,7 +67,7 @@ loop-i-preserved c =
       length-set l.counts l.i number ∙ l.invariant.4,
       length-set l.places l.i place ∙ l.invariant.5,
       λ k m. get_or-set_other l.counts l.i k number 0 (λ e. omega arith) ∙ l.invariant.6 k (omega arith),
-      subst (λ (n : ℕ). Gathered a.catalogue.now a.table.now a.year (length a.counts.now) a.counts.now a.results.now (l.i + 1) (l.place + result_bytes * n) join.new.aggregates join.result (set l.counts l.i number) (set l.places l.i place)) (sym (same_count s)) g,
+      subst (λ (n : ℕ). Gathered a.catalogue.now a.table.now a.year (length a.counts.now) a.counts.now a.results.now (l.i + 1) (l.place + result_bytes * n) join.new.aggregates join.result (set l.counts l.i number) (set l.places l.i place)) (sym (c.from-count.ensures ∙ same_count s)) g,
     )
 
 pub returns : goal.returns

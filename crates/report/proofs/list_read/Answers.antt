@@ -20,7 +20,7 @@ pub list_noted-requires : goal.list_noted-requires
 list_noted-requires c =
     let a = c.args in
     let p = c.requires in
-    let w = c.collect-n.ensures in
+    let w = rw c.from-year.ensures at c.collect-n.ensures in
     let l = c.collect-n.new in
     let eligible = take c.collect-n.result l.aggregates in
     record {
@@ -35,7 +35,7 @@ list_noted-requires c =
 pub returns : goal.returns
 returns c =
     let a = c.args in
-    let w = c.collect-n.ensures in
+    let w = rw c.from-year.ensures at c.collect-n.ensures in
     let l = c.collect-n.new in
     let y = front (length a.counts.now) l.places w.places_long in
     let eligible = take c.collect-n.result l.aggregates in
