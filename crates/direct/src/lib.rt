@@ -15,8 +15,14 @@ fn at_least(aggregates: &[u32], x: u32) -> u32
     requires { length aggregates.now ≤ most_tallied }
     ensures { result ≡ at_least aggregates.now x }
 {
-    let counted = aggregates.iter().filter(|aggregate| x <= **aggregate);
-    counted.count() as u32
+    let mut n: u32 = 0;
+    // No `filter` and `count`: they took ten times as long.
+    for aggregate in aggregates {
+        if x <= *aggregate {
+            n += 1;
+        }
+    }
+    n
 }
 
 // Each student's band, and the remainder.
