@@ -57,6 +57,7 @@ impl Places<'_> {
     {
         let mut band = from.band;
         let mut sum = from.sum;
+        // A `while`, for where it stops is the answer.
         while 0 < band && !fits(c, self.of(sum)) {
             band -= 1;
             sum += u64::from(self.table[band]);
