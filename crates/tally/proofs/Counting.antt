@@ -4,16 +4,14 @@ use native.Mathlib.Nat.{not-suc-le-zero, le_of_suc-le-suc, eq-or-lt_of_le}
 use native.Mathlib.Omega.{arith}
 use native.Mathlib.Decide.{dec_lt}
 use mathlib.Core.Path.{◌≡◌, refl, sym, ap, ◌∙◌}
-use mathlib.Core.Bool.{Bool, true, false, cond}
+use mathlib.Core.Bool.{Bool, false}
 use mathlib.Core.Logic.{◌⊎◌, inl, inr}
-use mathlib.Core.List.{List, ◌∷◌}
+use mathlib.Core.List.{List}
 use lib.ListN.{length, get_or}
 use lib.Dec.{leb, eqb, leb→le, le→leb}
 use borrow.Author.Tests.{le-leb, lt-leb, eq-eqb, ne_eqb}
 use Rattle.paper.specs.Lists.{pick, sum, count, sum_of}
-use Rattle.paper.proofs.Listing.{sum_same, sum-add, count_none, count-step, count-split, count_same, count-le, count_no, count-within, sum_of-least}
-use Rattle.std.specs.List.{count_by}
-use Rattle.std.proofs.lemmas.List.Recursion.{is_count_by}
+use Rattle.paper.proofs.Listing.{sum_same, sum-add, count-step, count_same, count-le, count_no, count-within, sum_of-least}
 use Rattle.tally.specs.Counts.{at_least, number_at}
 
 -- a count with one more, which has f or not
@@ -91,26 +89,3 @@ gathered m (suc n) v f h =
     sum_same m (λ k. (count n (λ i. eqb (v i) k) + pick (eqb (v n) k) 1 0) * f k) (λ k. count n (λ i. eqb (v i) k) * f k + pick (eqb (v n) k) 1 0 * f k) (λ k l. omega arith)
     ∙ sum-add m (λ k. count n (λ i. eqb (v i) k) * f k) (λ k. pick (eqb (v n) k) 1 0 * f k)
     ∙ omega (arith, gathered m n v f (λ i l. h i (omega arith)), sum_one m (v n) f (h n (omega arith)))
-
--- those of a list that pass a test, counted along it
-module _ (p : ℕ → Bool) where
-  passing : List ℕ → ℕ
-  passing xs = count (length xs) (λ i. p (get_or xs i 0))
-
-  one_more : (b : Bool) (one more rest : ℕ) → one ≡ 0 + pick b 1 0 → more ≡ rest → one + more ≡ cond b (1 + rest) rest
-  one_more true one more rest d e = omega arith
-  one_more false one more rest d e = omega arith
-
-  along : (x : ℕ) (xs : List ℕ) → passing (x ∷ xs) ≡ cond (p x) (1 + passing xs) (passing xs)
-  unfolding passing
-  along x xs =
-      let f : ℕ → Bool = λ i. p (get_or (x ∷ xs) i 0) in
-      let n = length xs in
-      let long : length (x ∷ xs) ≡ 1 + n = omega arith in
-      let one : count 1 f ≡ 0 + pick (p x) 1 0 = count-step 0 f ∙ ap (λ (k : ℕ). k + pick (p x) 1 0) (count_none f) in
-      let rest = count_same n (λ i. f (1 + i)) (λ i. p (get_or xs i 0)) (λ i l. let e : 1 + i ≡ suc i = omega arith in ap f e) in
-      ap (λ (m : ℕ). count m f) long ∙ count-split 1 n f ∙ one_more (p x) _ _ _ one rest
-
-  pub count-along : (xs : List ℕ) → count (length xs) (λ i. p (get_or xs i 0)) ≡ count_by p xs
-  unfolding passing
-  count-along = is_count_by passing p (count_none (λ i. p 0)) along

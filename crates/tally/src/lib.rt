@@ -11,6 +11,8 @@ ghost use Rattle.tally.specs.InnerTally.{sums_to, steps_of, Rising, sums_from, b
 pub mod screening;
 pub mod search;
 
+use search::Places;
+
 // In entry t the number of students with aggregate t, whatever the counts held before.
 pub fn count(aggregates: &[u32], counts: &mut [u32])
     requires { Countable aggregates.now counts.old }
@@ -53,13 +55,14 @@ pub fn walk(table: &[u32], population: u32, counts: &mut [u32]) -> usize
     requires { Walkable table.now population counts.old }
     ensures { (result ≡ remainder_by table.now population (sums_from counts.old)) × (counts.new ≡ bands_by table.now population (sums_from counts.old)) }
 {
-    let mut reached = search::top(table, population);
+    let places = Places { table, population };
+    let mut reached = places.top();
     let mut c: u32 = 0;
     let mut remainder: usize = 0;
     for t in (0..counts.len()).rev() {
         let here = counts[t];
         c += here;
-        reached = search::go_on(table, population, c, reached);
+        reached = places.go_on(c, reached);
         remainder += search::left_over(c, reached.places, here);
         counts[t] = reached.band as u32;
     }

@@ -20,24 +20,64 @@ pub struct Reached {
     pub places: u64,
 }
 
-// The places of a sum of entries, times 2000000000.
-fn places_of(population: u32, sum: u64) -> u64
-    requires { (population ≤ most_population) × (sum ≤ band_count * most_entry) }
-    ensures { result ≡ population * sum }
-{
-    u64::from(population) * sum
+// What gives each band its places: a participation table and Y.
+#[derive(Clone, Copy)]
+pub struct Places<'a> {
+    pub table: &'a [u32],
+    pub population: u32,
+    ghost sized: { Sized table.now },
+    ghost people: { population ≤ most_population },
 }
 
-// The top band, where a search begins.
-pub fn top(table: &[u32], population: u32) -> Reached
-    requires { Sized table.now × (population ≤ most_population) }
-    ensures { (result.band ≡ top_band) × Stands table.now population result.band result.sum result.places }
-{
-    let sum = u64::from(table[TOP_BAND]);
-    Reached {
-        band: TOP_BAND,
-        sum,
-        places: places_of(population, sum),
+impl Places<'_> {
+    // The places of a sum of entries, times 2000000000.
+    fn of(&self, sum: u64) -> u64
+        requires { sum ≤ band_count * most_entry }
+        ensures { result ≡ self.now.population * sum }
+    {
+        u64::from(self.population) * sum
+    }
+
+    // The top band, where a search begins.
+    pub fn top(&self) -> Reached
+        ensures { (result.band ≡ top_band) × Stands self.now.table.now self.now.population result.band result.sum result.places }
+    {
+        let sum = u64::from(self.table[TOP_BAND]);
+        Reached {
+            band: TOP_BAND,
+            sum,
+            places: self.of(sum),
+        }
+    }
+
+    // Goes on from a band: the first from there down whose places reach c students, or 0.
+    pub fn highest(&self, c: u32, from: Reached) -> Reached
+        requires { SearchAt self.now.table.now self.now.population c from.band from.sum from.places }
+        ensures { Reaches self.now.table.now self.now.population c result.band result.sum result.places }
+    {
+        let mut band = from.band;
+        let mut sum = from.sum;
+        // A `while`, for where it stops is the answer.
+        while 0 < band && !fits(c, self.of(sum)) {
+            band -= 1;
+            sum += u64::from(self.table[band]);
+        }
+        Reached {
+            band,
+            sum,
+            places: self.of(sum),
+        }
+    }
+
+    // The same, at once where c students fit the band it goes on from.
+    pub fn go_on(&self, c: u32, from: Reached) -> Reached
+        requires { SearchAt self.now.table.now self.now.population c from.band from.sum from.places }
+        ensures { Reaches self.now.table.now self.now.population c result.band result.sum result.places }
+    {
+        if fits(c, from.places) {
+            return from;
+        }
+        self.highest(c, from)
     }
 }
 
@@ -46,35 +86,6 @@ fn fits(c: u32, places: u64) -> bool
     ensures { result ≡ one_place * c ≤? places }
 {
     ONE_PLACE * u64::from(c) <= places
-}
-
-// Goes on from a band: the first from there down whose places reach c students, or 0.
-pub fn highest(table: &[u32], population: u32, c: u32, from: Reached) -> Reached
-    requires { SearchAt table.now population c from.band from.sum from.places }
-    ensures { Reaches table.now population c result.band result.sum result.places }
-{
-    let mut band = from.band;
-    let mut sum = from.sum;
-    while 0 < band && !fits(c, places_of(population, sum)) {
-        band -= 1;
-        sum += u64::from(table[band]);
-    }
-    Reached {
-        band,
-        sum,
-        places: places_of(population, sum),
-    }
-}
-
-// The same, at once where c students fit the band it goes on from.
-pub fn go_on(table: &[u32], population: u32, c: u32, from: Reached) -> Reached
-    requires { SearchAt table.now population c from.band from.sum from.places }
-    ensures { Reaches table.now population c result.band result.sum result.places }
-{
-    if fits(c, from.places) {
-        return from;
-    }
-    highest(table, population, c, from)
 }
 
 // Of n students whose C is c, those left over: all, if c doesn't fit the band that is reached, which then is 0.
