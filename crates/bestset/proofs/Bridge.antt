@@ -10,13 +10,13 @@ use Rattle.paper.specs.Lists.{first}
 use Rattle.paper.specs.Rulings.{Outcome, accepted, refused, ◌⇒◌, ◌at◌, judged}
 use Rattle.paper.specs.Refusals.{fault}
 use Rattle.paper.specs.declared.refusal.Refusal.{Refusal}
-use Rattle.paper.specs.declared.refusal.Refusal.TheVariants.{Again, NoEnglish}
+use Rattle.paper.specs.declared.refusal.Refusal.TheVariants.{NoEnglish}
 use Rattle.paper.proofs.Ruled.{all_unbroken, after-unbroken, before-refused}
 use Rattle.seek.specs.InnerTest.{value_at, Allowed, Answers}
 use Rattle.seek.specs.InnerSearch.{Sought}
 use Rattle.seek.specs.declared.search.Test.{Test}
 use Rattle.seek.specs.declared.search.Lead.{Lead}
-use Rattle.std.proofs.Common.{Option, Some, None}
+use Rattle.std.proofs.Common.{Option, Some, None, Err}
 use Rattle.seek.proofs.Tops.{answers_iff, answers_sum}
 use Rattle.results.specs.Results.{Student, held, result}
 use Rattle.results.specs.Scoring.{score_at}
@@ -24,8 +24,8 @@ use Rattle.results.specs.Counting.{usable, shows_english}
 use Rattle.results.proofs.Scores.{score-most}
 use Rattle.sets.specs.Admissible.{Admissible}
 use Rattle.sets.specs.Rules.{turn_rules, repeated, student_rules}
-use Rattle.sets.specs.Promise.{Values, WellFormed, ruling, aggregate_of, Answered, RuledBy, Ruled, Promise}
-use Rattle.sets.specs.declared.Answer.TheVariants.{Refused}
+use Rattle.sets.specs.Promise.{WellFormed, ruling, aggregate_of, Answered, RuledBy, Ruled, Promise}
+use Rattle.sets.specs.declared.BestSet.{BestSet}
 use Rattle.sets.proofs.Formed.{kept-held, few-held}
 use Rattle.bestset.specs.InnerJudging.{start_rules, Begun}
 use Rattle.clashes.specs.InnerMasks.{MaskOf}
@@ -66,19 +66,19 @@ module _ (s : Student) (table : List ℕ) where
 
   -- ---- the promise, by its ruling
 
-  ruled-so : (o : Outcome Values) (u : Outcome (Unit {0})) → ruling s table ≡ u → RuledBy s table u o → Ruled s table o
+  ruled-so : (o : Outcome BestSet) (u : Outcome (Unit {0})) → ruling s table ≡ u → RuledBy s table u o → Ruled s table o
   ruled-so o u e h = subst (λ (v : Outcome (Unit {0})). RuledBy s table v o) (sym e) h
 
-  formed-refused : (x : Refusal) → judges (student_rules s table) ≡ refused (fault x) → Promise s table (Refused x)
+  formed-refused : (x : Refusal) → judges (student_rules s table) ≡ refused (fault x) → Promise s table (Err x)
   formed-refused x e = record { says = ruled-so (refused (fault x)) (refused (fault x)) (before-refused (student_rules s table) _ tt tt (fault x) e) refl; leaves = refl }
 
   -- before the results are read
-  pub promise_refused : (x : Refusal) → judges (start_rules s table) ≡ refused (fault x) → Promise s table (Refused x)
+  pub promise_refused : (x : Refusal) → judges (start_rules s table) ≡ refused (fault x) → Promise s table (Err x)
   promise_refused x e = formed-refused x (start-refused s table (fault x) e)
 
   module _ (begun : Begun s table) where
     -- of a result
-    pub promise_wrong : (x : Refusal) → judges (turn_rules s table) ≡ refused (fault x) → Promise s table (Refused x)
+    pub promise_wrong : (x : Refusal) → judges (turn_rules s table) ≡ refused (fault x) → Promise s table (Err x)
     promise_wrong x e = formed-refused x (turn_refused s table begun (fault x) e)
 
     -- 6, or the student is well-formed
@@ -86,10 +86,8 @@ module _ (s : Student) (table : List ℕ) where
       again-is : first (held s) (repeated_in s.results mask) ≡ first (held s) (repeated s)
       again-is = ap (first (held s)) (repeated-is s mask h)
 
-      pub promise_again : (i : ℕ) → FirstAgain s.results mask i → Promise s table (Refused (Again i))
-      promise_again i a =
-          let f = a.is_first ∙ again-is in
-          formed-refused (Again i) (repeat_left s table begun read ∙ simp (← f, lt-ltb _ _ a.one_of) refl)
+      pub promise_again : (x : Refusal) → FirstAgain s.results mask x → Promise s table (Err x)
+      promise_again x a = formed-refused x (repeat_left s table begun read ∙ simp (a.is_first, ← again-is, lt-ltb _ _ a.one_of) refl)
 
       pub well_formed : first (held s) (repeated_in s.results mask) ≡ held s → WellFormed s table
       well_formed e =
@@ -103,9 +101,9 @@ module _ (s : Student) (table : List ℕ) where
         after-unbroken (student_rules s table) _ tt (all_unbroken (student_rules s table) tt tt w) ∙ ap (λ (t : Bool). judged (not t ⇒ 7 at 0 ∷ []) tt) e
 
     -- 7
-    pub promise_english : shows_english s ≡ false → Promise s table (Refused NoEnglish)
+    pub promise_english : shows_english s ≡ false → Promise s table (Err NoEnglish)
     promise_english e = record { says = ruled-so (refused (7 at 0)) (refused (7 at 0)) (english-decides false e) refl; leaves = refl }
 
     -- after 7
-    pub answered-ruled : shows_english s ≡ true → (o : Outcome Values) → Answered s table o → Ruled s table o
+    pub answered-ruled : shows_english s ≡ true → (o : Outcome BestSet) → Answered s table o → Ruled s table o
     answered-ruled e o h = ruled-so o (accepted tt) (english-decides true e) h

@@ -6,15 +6,15 @@ use Rattle.catalogue.specs.Catalogue.{catalogue_rules}
 use Rattle.scores.specs.Scores.{Found}
 use Rattle.results.specs.Results.{Student}
 use Rattle.results.specs.Counting.{usable}
-use Rattle.results.specs.declared.reading.Result.{Result}
+use Rattle.results.specs.declared.reading.StudentResult.{StudentResult}
 use Rattle.sets.specs.Rules.{wrong, is_score, input_rules}
 
 -- a result, what is found in its slot: it is usable, and that is no score
-abbrev pub unscored_with : Result → Found → Bool
+abbrev pub unscored_with : StudentResult → Found → Bool
 unscored_with r slot = usable r && not (is_score slot)
 
 -- number of subjects, assessment year, result, what is found in its slot, its index: 3, 4, 5
-abbrev pub rules_of : ℕ → ℕ → Result → Found → ℕ → List Rule
+abbrev pub rules_of : ℕ → ℕ → StudentResult → Found → ℕ → List Rule
 rules_of known year r slot i =
     known ≤? r.subject ⇒ 3 at i
     ∷ wrong year r ⇒ 4 at i

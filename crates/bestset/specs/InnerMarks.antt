@@ -1,7 +1,8 @@
 -- What is read of the results: masks, bit i for result i, and numbers by position.
-use Rattle.std.specs.Prelude.{ℕ, ◌≤◌, ◌<◌, ◌≡◌, ◌&&◌, List, length, Option, Some, None}
+use Rattle.std.specs.Prelude.{ℕ, ◌≤◌, ◌<◌, ◌≡◌, ◌&&◌, List, length, Option, Some, None, Result, Ok, Err}
 use Rattle.paper.specs.Limits.{most_results}
 use Rattle.paper.specs.Refusals.{fault}
+use Rattle.paper.specs.declared.refusal.Refusal.{Refusal}
 use Rattle.paper.specs.Rulings.{Outcome, accepted, refused, ◌at◌, judged}
 use Rattle.catalogue.specs.Kinds.{english, mathematics}
 use Rattle.seek.specs.InnerTest.{value_at}
@@ -9,20 +10,19 @@ use Rattle.seek.specs.declared.search.Lead.{Lead}
 use Rattle.results.specs.Results.{held_in, Student, held, result}
 use Rattle.results.specs.Counting.{of_general, of_applied, of_strand, general_at, applied_at, strand_at, usable, passes, passes_at}
 use Rattle.results.specs.Scoring.{score_at, identity_at}
-use Rattle.results.specs.declared.reading.Result.{Result}
+use Rattle.results.specs.declared.reading.StudentResult.{StudentResult}
 use Rattle.clashes.specs.InnerMasks.{MaskOf, marked}
 use Rattle.sets.specs.Rules.{turn_rules}
-use Rattle.sets.specs.Promise.{Values, aggregate_of}
+use Rattle.sets.specs.Promise.{aggregate_of}
 use Rattle.clashes.specs.declared.masks.Masks.{Masks}
-use Rattle.bestset.specs.declared.marks.Reading.{Reading}
-use Rattle.bestset.specs.declared.marks.Reading.TheVariants.{All, Wrong}
+use Rattle.sets.specs.declared.BestSet.{BestSet}
 
 -- no result is marked
 abbrev pub unmarked : Masks
 unmarked = record { usable = 0; passes = 0; general = 0; general_english = 0; applied_english = 0; general_maths = 0; applied_maths = 0 }
 
 -- masks, i, result i: the masks with result i
-abbrev pub with_one : Masks → ℕ → Result → Masks
+abbrev pub with_one : Masks → ℕ → StudentResult → Masks
 with_one masks i r = record {
   usable = marked masks.usable i (usable r);
   passes = marked masks.passes i (passes r);
@@ -66,11 +66,11 @@ pub record ToRead (results scores identities : List ℕ) : Type 0 where
   pub no_identities : Blank identities
 
 -- student, table, what the reading says, the buffers after it: no result breaks a rule, and all are read; or a rule that is broken
-abbrev pub ReadAs : Student → List ℕ → Reading → List ℕ → List ℕ → Type 0
-ReadAs s table (All masks) scores identities = (judged (turn_rules s table) (tt {0}) ≡ accepted tt) × AllRead s table masks scores identities
-ReadAs s table (Wrong x) scores identities = judged (turn_rules s table) (tt {0}) ≡ refused (fault x)
+abbrev pub ReadAs : Student → List ℕ → Result Masks Refusal → List ℕ → List ℕ → Type 0
+ReadAs s table (Ok masks) scores identities = (judged (turn_rules s table) (tt {0}) ≡ accepted tt) × AllRead s table masks scores identities
+ReadAs s table (Err x) scores identities = judged (turn_rules s table) (tt {0}) ≡ refused (fault x)
 
 -- what the search found: the aggregate and the set; or 8
-abbrev pub outcome : Option Lead → Outcome Values
+abbrev pub outcome : Option Lead → Outcome BestSet
 outcome (Some lead) = accepted (record { aggregate = aggregate_of lead.total; set = lead.set })
 outcome None = refused (8 at 0)

@@ -2,27 +2,19 @@
 ghost use Rattle.std.specs.Prelude.{◌≡◌, ◌<◌};
 ghost use Rattle.paper.specs.Limits.{most_results};
 ghost use Rattle.results.specs.Results.{student};
-ghost use Rattle.bestset.specs.InnerMarks.{unmarked, with_one, ToRead, ReadAs};
+ghost use Rattle.bestset.specs.InnerMarks.{with_one, ToRead, ReadAs};
 
 use crate::readable;
 use catalogue::kinds;
 use catalogue::kinds::{ENGLISH, MATHEMATICS};
-use clashes::masks::{Masks, both, marked};
+use clashes::masks::{Masks, marked};
 use paper::limits::{ENTRY_BYTES, MOST_RESULTS, RESULT_BYTES};
 use paper::refusal::Refusal;
-use paper::screening::Verdict;
-use results::reading::Result;
+use results::reading::StudentResult;
 use results::{counting, reading, scoring};
 
-// All results were read, or what is wrong with the first that is wrong.
-#[derive(Clone, Copy)]
-pub(crate) enum Reading {
-    All(Masks),
-    Wrong(Refusal),
-}
-
 // The masks with result i.
-fn with_one(masks: Masks, i: usize, res: Result) -> Masks
+fn with_one(masks: Masks, i: usize, res: StudentResult) -> Masks
     requires { i < most_results }
     ensures { result ≡ with_one masks i res }
 {
@@ -34,25 +26,10 @@ fn with_one(masks: Masks, i: usize, res: Result) -> Masks
         usable: marked(masks.usable, i, counting::usable(res)),
         passes: marked(masks.passes, i, counting::passes(res)),
         general: marked(masks.general, i, general),
-        general_english: marked(masks.general_english, i, both(general, english)),
-        applied_english: marked(masks.applied_english, i, both(applied, english)),
-        general_maths: marked(masks.general_maths, i, both(general, maths)),
-        applied_maths: marked(masks.applied_maths, i, both(applied, maths)),
-    }
-}
-
-// No result is marked.
-fn unmarked() -> Masks
-    ensures { result ≡ unmarked }
-{
-    Masks {
-        usable: 0,
-        passes: 0,
-        general: 0,
-        general_english: 0,
-        applied_english: 0,
-        general_maths: 0,
-        applied_maths: 0,
+        general_english: marked(masks.general_english, i, general & english),
+        applied_english: marked(masks.applied_english, i, applied & english),
+        general_maths: marked(masks.general_maths, i, general & maths),
+        applied_maths: marked(masks.applied_maths, i, applied & maths),
     }
 }
 
@@ -65,23 +42,18 @@ pub(crate) fn read_all(
     results: &[u8],
     scores: &mut [u32; MOST_RESULTS],
     identities: &mut [u16; MOST_RESULTS],
-) -> Reading
+) -> Result<Masks, Refusal>
     requires { ToRead results.now scores.old identities.old }
     ensures { ReadAs (student catalogue.now year results.now) table.now result scores.new identities.new }
 {
-    let mut masks = unmarked();
-    let mut i: usize = 0;
-    while i < results.len() / RESULT_BYTES {
+    let mut masks = Masks::default();
+    for i in 0..results.len() / RESULT_BYTES {
         let result = reading::result_at(catalogue, results, i);
         let slot = scoring::slot_of(table, result);
-        let verdict = readable::judge_result(catalogue.len() / ENTRY_BYTES, year, result, slot, i);
-        if let Verdict::Refused(x) = verdict {
-            return Reading::Wrong(x);
-        }
+        readable::judge_result(catalogue.len() / ENTRY_BYTES, year, result, slot, i)?;
         masks = with_one(masks, i, result);
         scores[i] = scoring::score_of(slot);
         identities[i] = scoring::identity_of(result);
-        i += 1;
     }
-    Reading::All(masks)
+    Ok(masks)
 }

@@ -4,7 +4,7 @@ ghost use Rattle.paper.specs.Limits.{most_results};
 ghost use Rattle.clashes.specs.InnerMasks.{marked};
 
 // The usable results, those that show English, the General ones, and those of each sort that the rules of sets ask for.
-#[derive(Clone, Copy)]
+#[derive(Clone, Copy, Default)]
 pub struct Masks {
     pub usable: u16,
     pub passes: u16,

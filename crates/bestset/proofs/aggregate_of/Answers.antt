@@ -12,7 +12,7 @@ unfolding aggregate_of
 is sum w q = q ∙ ap (λ (n : ℕ). nearest (hundredths * n) score_parts) w
 
 pub overflow_cast-result : goal.overflow_cast-result
-overflow_cast-result c = omega (arith, is c.args.sum c.wide32.ensures.0 c.nearest.ensures, rounded-most c.args.sum c.args.sum (omega arith), c.ranges)
+overflow_cast-result c = omega (arith, is c.args.sum c.from.ensures c.nearest.ensures, rounded-most c.args.sum c.args.sum (omega arith), c.ranges)
 
 pub returns : goal.returns
-returns c = is c.args.sum c.wide32.ensures.0 c.nearest.ensures
+returns c = is c.args.sum c.from.ensures c.nearest.ensures

@@ -1,7 +1,7 @@
-use Rattle.std.proofs.Common.{◌≡◌, ℕ, ◌-◌, ◌<◌, ◌≤◌, length}
+use Rattle.std.proofs.Common.{◌≡◌, ℕ, ◌<◌, length}
 use Rattle.paper.proofs.Ruled.{Unbroken}
 use Rattle.paper.specs.Limits.{most_results}
-use Rattle.results.specs.Results.{held_in, student}
+use Rattle.results.specs.Results.{student}
 use Rattle.results.specs.Scoring.{score_at, identity_at}
 use Rattle.sets.specs.Rules.{result_rules}
 use Rattle.bestset.specs.InnerMarks.{Masked, ByPosition}
@@ -10,7 +10,6 @@ use Rattle.bestset.proofs.marks.read_all.Given as goal
 -- the results before i break no rule, and are read: their masks, and their scores and identities by position
 abbrev pub invariant-loop-i : goal.invariant-loop-i
 invariant-loop-i l = record {
-  low : l.i ≤ held_in l.results;
   scores_sized : length l.scores ≡ most_results;
   identities_sized : length l.identities ≡ most_results;
   masks_are : Masked (student l.catalogue l.year l.results) l.i l.masks;
@@ -18,6 +17,3 @@ invariant-loop-i l = record {
   identities_are : ByPosition (identity_at (student l.catalogue l.year l.results)) l.i l.identities;
   fresh : (j : ℕ) → j < l.i → Unbroken (result_rules (student l.catalogue l.year l.results) l.table j);
 }
-
-abbrev pub decreases-loop-i : goal.decreases-loop-i
-decreases-loop-i l = held_in l.results - l.i

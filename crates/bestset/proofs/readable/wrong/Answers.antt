@@ -5,6 +5,6 @@ pub returns-then-not-grade_fits : goal.returns-then-not-grade_fits
 unfolding wrong
 returns-then-not-grade_fits c = simp (← c.grade_fits.ensures, c.if-not-grade_fits.true)
 
-pub returns : goal.returns
+pub returns-else-not-grade_fits : goal.returns-else-not-grade_fits
 unfolding wrong
-returns c = simp (← c.grade_fits.ensures, c.if-not-grade_fits.false, ← c.wide16.ensures.0, ← c.within.ensures)
+returns-else-not-grade_fits c = simp (← c.grade_fits.ensures, c.if-not-grade_fits.false, ← c.from.ensures, ← c.within.ensures)

@@ -4,7 +4,7 @@ use Rattle.scores.proofs.rows.clear.Goals as goal
 
 pub returns-then-subject-table : goal.returns-then-subject-table
 returns-then-subject-table c =
-    row-filled c.args.table.now c.args.subject c.fill.new.self c.if-subject-table.true (c.fill.ensures.after (λ y e. e))
+    row-filled c.args.table.now c.args.subject c.fill_row.new.row c.if-subject-table.true c.fill_row.ensures
 
 pub returns-else-subject-table : goal.returns-else-subject-table
 returns-else-subject-table c =
