@@ -17,9 +17,6 @@ judges rules = judged rules tt
 
 module _ (s : Student) (table : List ℕ) where
   -- the rules of the catalogue, then those of the input
-  pub catalogue-refused : (f : Fault) → judges (catalogue_rules s.catalogue) ≡ refused f → judges (start_rules s table) ≡ refused f
-  catalogue-refused f e = before-refused (catalogue_rules s.catalogue) (input_rules s table) tt tt f e
-
   pub input_left : Unbroken (catalogue_rules s.catalogue) → judges (start_rules s table) ≡ judges (input_rules s table)
   input_left whole = after-unbroken (catalogue_rules s.catalogue) (input_rules s table) tt whole
 

@@ -1,10 +1,10 @@
 -- What a loop over the results builds: a mask holds the results of a test, one law for every test; a list has their values by position.
-use Prim.Native.Nat.{ℕ, zero, suc, ◌+◌, ◌≤◌, ◌<◌}
+use Prim.Native.Nat.{ℕ, suc, ◌+◌, ◌≤◌, ◌<◌}
 use native.Mathlib.Decide.{dec_lt, ℕ_discrete}
 use native.Mathlib.Omega.{arith}
 use mathlib.Core.Path.{◌≡◌, refl, ◌∙◌}
 use mathlib.Core.List.{List}
-use lib.ListN.{length, get_or, set, replicate}
+use lib.ListN.{length, set}
 use lib.Seq.{get_or-set_same, get_or-set_other}
 use Rattle.paper.specs.Limits.{most_results}
 use Rattle.seek.specs.InnerTest.{value_at}
@@ -38,12 +38,6 @@ masked_one s i masks h m =
       general_maths_is = one _ i _ h m.general_maths_is _ refl;
       applied_maths_is = one _ i _ h m.applied_maths_is _ refl;
     }
-
--- a blank buffer
-pub zeros-at : (n i : ℕ) → get_or {A = ℕ} (replicate n 0) i 0 ≡ 0
-zeros-at zero i = refl
-zeros-at (suc n) zero = refl
-zeros-at (suc n) (suc i) = zeros-at n i
 
 -- at first none is read
 pub read_none : (f : ℕ → ℕ) (values : List ℕ) → ((i : ℕ) → value_at values i ≡ 0) → ByPosition f 0 values
