@@ -102,8 +102,8 @@ module _ {table : List ℕ} {Y c k sum room : ℕ} (at : SearchAt table Y c k su
   here h = record { band_is = highest_once table Y c top_band k (band_of table Y c) h (band-highest table Y c); stands = at.stands }
 
   -- the search ends at band 0, or at the band that fits
-  pub search_bottom : k ≡ 0 → Reaches table Y c k sum room
-  search_bottom e = here (record { within = at.stands.within; fit = λ l. absurd (omega arith); none = at.none_above })
+  pub search_bottom : k ≡ 0 → Reaches table Y c 0 sum room
+  search_bottom e = rw e at (here (record { within = at.stands.within; fit = λ l. absurd (omega arith); none = at.none_above }))
 
   pub search_fits : leb (one_place * c) room ≡ true → Reaches table Y c k sum room
   search_fits e = here (record { within = at.stands.within; fit = λ l. omega (arith, leb-true (one_place * c) room e, at.stands.room_is); none = at.none_above })

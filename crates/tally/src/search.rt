@@ -55,13 +55,19 @@ impl Places<'_> {
         requires { SearchAt self.now.table.now self.now.population c from.band from.sum from.places }
         ensures { Reaches self.now.table.now self.now.population c result.band result.sum result.places }
     {
-        let mut band = from.band;
+        let mut k = from.band;
         let mut sum = from.sum;
-        // A `while`, for where it stops is the answer.
-        while 0 < band && !fits(c, self.of(sum)) {
-            band -= 1;
-            sum += u64::from(self.table[band]);
-        }
+        // The loop yields the band by break, as the paper has it.
+        let band = loop {
+            if k == 0 {
+                break 0;
+            }
+            if fits(c, self.of(sum)) {
+                break k;
+            }
+            k -= 1;
+            sum += u64::from(self.table[k]);
+        };
         Reached {
             band,
             sum,
