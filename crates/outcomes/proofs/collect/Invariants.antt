@@ -2,7 +2,7 @@ use Rattle.outcomes.proofs.Collecting.{Gathered}
 use Rattle.paper.specs.Limits.{result_bytes, most_results, most_students}
 use lib.ListN.{length, get_or}
 use mathlib.Core.Path.{◌≡◌}
-use Prim.Native.Nat.{ℕ, ◌*◌, ◌-◌, ◌≤◌}
+use Prim.Native.Nat.{ℕ, ◌*◌, ◌≤◌}
 use Rattle.outcomes.proofs.collect.Given as goal
 
 -- what is told of the first i students is noted, and their results end at a place; the numbers of results of the others still stand
