@@ -86,7 +86,7 @@ pub fn is_outside(entry: Entry) -> bool
     !strand_fits(kind, entry) || !level_fits(kind, entry) || !identity_fits(kind, entry)
 }
 
-// The first entry outside its ranges; the number of subjects where none is.
+// The first entry outside its ranges; the number of subjects where none is, and no Option: the contract speaks of that number.
 pub fn first_outside(catalogue: &[u8]) -> usize
     ensures { result ≡ first_outside catalogue.now }
 {

@@ -35,7 +35,7 @@ pub fn first_scores(
     ensures { Promise kind subject counts.now table.old result table.new }
 {
     let known = scored(kind)?;
-    // by a quotient: the bytes before any subject at all could wrap
+    // by a quotient: the bytes before any subject at all could wrap; `as`, since a usize is made from no u32 by From
     if table.len() / ROW_BYTES <= subject as usize {
         return Err(Refusal::WrongSubject(0));
     }

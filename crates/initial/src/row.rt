@@ -59,10 +59,7 @@ pub(crate) fn fill(kind: Kind, counts: &[u32], total: u64, row: &mut [u8])
     rows::clear(row, 0);
     match kind {
         Kind::Vet => rows::store(row, 0, Raw(1), Scaled(50 * SCORE_PARTS)),
-        _ => {
-            if 0 < total {
-                write(kind, counts, total, row);
-            }
-        }
+        _ if 0 < total => write(kind, counts, total, row),
+        _ => {}
     }
 }

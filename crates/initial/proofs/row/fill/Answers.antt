@@ -41,9 +41,9 @@ pub write-requires : goal.write-requires
 write-requires c =
     (record { long = c.requires.long; all_are = c.requires.all_are; most = c.requires.most; whole = search rules }, c.if-total-gt0.true, cleared_row c.requires c.clear.ensures)
 
-pub returns-then-total-gt0 : goal.returns-then-total-gt0
+pub returns-in_default : goal.returns-in_default
 unfolding row_for score_in score_among
-returns-then-total-gt0 c =
+returns-in_default c =
     let v = not_vet c.args.kind c.in_default.not-Vet in
     c.write.ensures ∙ simp (v, ← c.requires.all_are, ne_eqb c.args.total 0 (λ e. omega (arith, c.if-total-gt0.true))) refl
 
