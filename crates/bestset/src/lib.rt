@@ -23,6 +23,7 @@ mod readable;
 fn aggregate_of(sum: u32) -> u32
     ensures { result ≡ aggregate_of sum }
 {
+    // by `as`: it narrows
     rounding::nearest(HUNDREDTHS * u64::from(sum), u64::from(SCORE_PARTS)) as u32
 }
 

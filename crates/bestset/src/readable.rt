@@ -13,7 +13,6 @@ use catalogue::kinds::Kind;
 use paper::limits::{
     ENTRY_BYTES, FIRST_YEAR, LEAST_YEAR, MOST_RESULTS, MOST_YEAR, RESULT_BYTES, ROW_BYTES, SLOTS,
 };
-use paper::ranges;
 use paper::refusal::Refusal;
 use results::counting;
 use results::reading::StudentResult;
@@ -26,8 +25,7 @@ fn grade_fits(res: StudentResult) -> bool
     match Kind::try_from(res.entry.kind) {
         Ok(Kind::Vet) => matches!(res.letter, b'Y' | b'N') && res.number == 0,
         Ok(Kind::General | Kind::Extension | Kind::ExternalExamination) => {
-            matches!(res.letter, b'A'..=b'E')
-                && ranges::within(1, SLOTS as u64, u64::from(res.number))
+            matches!(res.letter, b'A'..=b'E') && (1..=SLOTS).contains(&usize::from(res.number))
         }
         Ok(Kind::Applied | Kind::ShortCourse) | Err(_) => {
             matches!(res.letter, b'A'..=b'E') && res.number == 0
@@ -36,10 +34,11 @@ fn grade_fits(res: StudentResult) -> bool
 }
 
 // Whether letter, number or year is wrong for the kind.
+#[tactic(auto, unfolding(sets::specs::Rules::wrong))]
 fn wrong(year: u64, res: StudentResult) -> bool
     ensures { result ≡ wrong year res }
 {
-    !grade_fits(res) || !ranges::within(FIRST_YEAR, year, u64::from(res.year))
+    !grade_fits(res) || !(FIRST_YEAR..=year).contains(&u64::from(res.year))
 }
 
 fn is_score(slot: Slot) -> bool
@@ -85,7 +84,7 @@ fn judge_input(catalogue: &[u8], table: &[u8], year: u64, results: &[u8]) -> Res
     if table.len() != ROW_BYTES * (catalogue.len() / ENTRY_BYTES) {
         return Err(Refusal::WrongLength);
     }
-    if !ranges::within(LEAST_YEAR, MOST_YEAR, year) {
+    if !(LEAST_YEAR..=MOST_YEAR).contains(&year) {
         return Err(Refusal::WrongYear(0));
     }
     let held = results.len() / RESULT_BYTES;
