@@ -2,9 +2,9 @@
 use crate::saying;
 use arrayvec::ArrayVec;
 use paper::limits::{ENTRY_BYTES, RESULT_BYTES, ROW_BYTES, SCORE_PARTS, SLOTS};
+use paper::refusal::Refusal;
 use scores::rows;
 use scores::slots::{Raw, Scaled};
-use paper::refusal::Refusal;
 use sets::BestSet;
 use std::io::Stdout;
 
