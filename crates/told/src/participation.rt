@@ -6,7 +6,8 @@ use crate::telling::{Told, tell};
 use curve::Participation;
 use paper::refusal::Refusal;
 
-// Refused: population and rate are 0. Laid out as the header's flat shtegomir_curve.
+// Refused: population and rate are 0. Laid out as the header's flat shtegomir_curve, whose fields have names of their own, so that no generic
+// struct serves here and for the best set.
 #[repr(C)]
 #[derive(Drop)]
 pub struct Curve {
