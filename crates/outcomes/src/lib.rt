@@ -69,6 +69,7 @@ pub fn collect(
 {
     let mut place = 0;
     let mut eligible = 0;
+    // By index: of each student one column is read and written over, and another written.
     for i in 0..counts.len() {
         let count = usize::from(counts[i]);
         let answer = best_at(catalogue, table, year, results, place, count);

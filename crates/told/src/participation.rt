@@ -16,16 +16,11 @@ pub struct Curve {
     pub rate: u32,
 }
 
-const NO_VALUES: Participation = Participation {
-    population: 0,
-    rate: 0,
-};
-
 impl From<Result<Participation, Refusal>> for Curve {
     ghost from_gives = { λ answer given. given ≡ form answer };
 
     fn from(answer: Result<Participation, Refusal>) -> Curve {
-        let Participation { population, rate } = answer.unwrap_or(NO_VALUES);
+        let Participation { population, rate } = answer.unwrap_or_default();
         Curve {
             told: tell(answer),
             population,
