@@ -20,7 +20,6 @@ use paper::bytes;
 use paper::limits::{
     FIGURE_COUNT, LEAST_YEAR, MOST_RESULTS, MOST_SLOTS, MOST_STUDENTS, MOST_YEAR, SLOTS, TOP_SCORE,
 };
-use paper::ranges::within;
 use paper::refusal::Refusal;
 
 // What is noted of the fields before: the slots that have their score, one byte to a slot, and the ids.
@@ -34,7 +33,7 @@ struct Noted {
 fn judge_year(place: usize, value: &[u8]) -> Result<(), Refusal>
     ensures { said result ≡ judged (year_rules value.now place) tt }
 {
-    if !within(LEAST_YEAR, MOST_YEAR, u64::from(bytes::word_at(value, 0))) {
+    if !(LEAST_YEAR..=MOST_YEAR).contains(&u64::from(bytes::word_at(value, 0))) {
         return Err(Refusal::WrongYear(place));
     }
     Ok(())
@@ -94,7 +93,7 @@ fn judge_score(
         return Err(Refusal::WrongSubject(place));
     }
     let slot = bytes::byte_at(value, 2);
-    if !within(1, SLOTS as u64, u64::from(slot)) || TOP_SCORE < bytes::long_at(value, 3) {
+    if !(1..=SLOTS).contains(&usize::from(slot)) || TOP_SCORE < bytes::long_at(value, 3) {
         return Err(Refusal::WrongScore(place));
     }
     if is_given(marks, subject, slot) {
