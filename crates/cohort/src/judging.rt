@@ -10,7 +10,7 @@ ghost use Rattle.held.specs.Judging.{year_rules, subject_rules, score_rules, fig
 ghost use Rattle.cohort.specs.Inner.{verdict_on, field_of, Marks, Seen};
 ghost use Rattle.cohort.specs.InnerValues.{nine_or_ten, Slotted, slot_place, is_marked, marks_with};
 
-use crate::values;
+use crate::values::{self, Field};
 use catalogue::entries;
 use fields::heads::{HEAD_BYTES, Head};
 use fields::order::Far;
@@ -66,13 +66,13 @@ fn is_given(marks: &[u8; MOST_SLOTS], subject: usize, slot: u8) -> bool
 }
 
 // Marks the slot of a score, tag 3.
-fn mark(tag: u8, value: &[u8], marks: &mut [u8; MOST_SLOTS])
-    requires { tag ≡ 3 → Slotted (word value.now 0) (byte value.now 2) }
-    ensures { marks.new ≡ marks_with tag value.now marks.old }
+fn mark(field: Field, marks: &mut [u8; MOST_SLOTS])
+    requires { field.tag ≡ 3 → Slotted (word field.value.now 0) (byte field.value.now 2) }
+    ensures { marks.new ≡ marks_with field.entry.tag field.entry.value.now marks.old }
 {
-    if let Ok(Tag::Score) = Tag::try_from(tag) {
-        let subject = usize::from(bytes::word_at(value, 0));
-        let place = slot_place(subject, bytes::byte_at(value, 2));
+    if let Ok(Tag::Score) = Tag::try_from(field.tag) {
+        let subject = usize::from(bytes::word_at(field.value, 0));
+        let place = slot_place(subject, bytes::byte_at(field.value, 2));
         marks[place] = 1;
     }
 }
@@ -133,11 +133,12 @@ fn judge_student(place: usize, value: &[u8], ids: &[u32]) -> Result<(), Refusal>
 }
 
 // The values of a field, by what is noted.
-fn judge_values(place: usize, tag: u8, value: &[u8], far: Far, noted: &Noted) -> Result<(), Refusal>
+fn judge_values(place: usize, field: Field, far: Far, noted: &Noted) -> Result<(), Refusal>
     requires { (far.subjects ≤ most_subjects) × (far.students ≤ length noted.now.ids) }
     ensures { (held : Held) → Seen far held noted.now.marks noted.now.ids
-        → said result ≡ judged (value_rules held (field_of tag value.now) place) tt }
+        → said result ≡ judged (value_rules held (field_of field.entry.tag field.entry.value.now) place) tt }
 {
+    let Field { tag, value } = field;
     match Tag::try_from(tag) {
         Ok(Tag::Year) => judge_year(place, value),
         Ok(Tag::Subject) => judge_subject(place, value),
@@ -168,9 +169,10 @@ pub(crate) fn judge(file: &[u8]) -> Result<(), Refusal>
         let start = at + HEAD_BYTES;
         let end = start + length;
         let value = &file[start..end];
-        judge_values(at, tag, value, far, &noted)?;
-        mark(tag, value, &mut noted.marks);
-        values::note_id(far, tag, value, &mut noted.ids);
+        let field = Field { tag, value };
+        judge_values(at, field, far, &noted)?;
+        mark(field, &mut noted.marks);
+        values::note_id(far, field, &mut noted.ids);
         far = order::further(far, tag);
         at = end;
     }
