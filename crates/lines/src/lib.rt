@@ -10,7 +10,8 @@ use paper::limits::MOST_STUDENTS;
 
 pub mod writing;
 
-// Puts the lines of all students into the text, and answers where they end. What is noted stands in columns, as those who note it lend them.
+// Puts the lines of all students into the text, and answers where they end. What is noted stands in columns, and in no slice of structs: the
+// C interface, `shtegomir_rank_and_place`, lends ranks, percentiles and bands as a slice of numbers each.
 pub fn lines(
     ids: &[u32],
     numbers: &[u8],
