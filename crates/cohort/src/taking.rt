@@ -127,8 +127,8 @@ fn take_field(
     }
 }
 
-// All fields of a file that is accepted. The buffers are six parameters: a struct of them is no plainer, for each function that takes it
-// has to promise of each buffer that it stays the same reference.
+// All fields of a file that is accepted. The buffers are six parameters: a struct of them is no plainer, for `take_field`, which the loop
+// lends it, would promise of each buffer that it stays the same reference, beside what it holds.
 pub(crate) fn take(
     file: &[u8],
     catalogue: &mut [u8; CATALOGUE_BYTES],
