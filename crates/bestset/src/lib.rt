@@ -31,11 +31,11 @@ fn aggregate_of(sum: u32) -> u32
 fn told(lead: Option<Lead>) -> Result<BestSet, Refusal>
     ensures { said result ≡ outcome lead }
 {
-    let lead = lead.ok_or(Refusal::NoSet)?;
-    Ok(BestSet {
+    lead.map(|lead| BestSet {
         aggregate: aggregate_of(lead.total),
         set: lead.set,
     })
+    .ok_or(Refusal::NoSet)
 }
 
 // The best set of a student with a catalogue, a table, a year and a number of results that are right: for each result 3, 4, 5, then 6, 7, 8 are left.
