@@ -1,6 +1,5 @@
 // Table 3 of the technical document, of 51493 students: its rows, and the others between Lauren and Anna.
 use crate::saying;
-use paper::refusal::Refusal;
 use std::io::Stdout;
 
 // The students of the table.
