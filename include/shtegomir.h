@@ -147,7 +147,7 @@ struct shtegomir_scored {
  */
 struct shtegomir_scored shtegomir_first_scores(uint32_t kind, uint32_t subject, const uint32_t *counts, size_t counts_len,
                                                uint8_t *table, size_t table_len);
-enum { SHTEGOMIR_FIRST_SCORES_STACK = 96 };
+enum { SHTEGOMIR_FIRST_SCORES_STACK = 80 };
 
 /* ---- The population and the participation curve ---- */
 

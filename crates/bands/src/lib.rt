@@ -7,7 +7,8 @@ use paper::refusal::Refusal;
 
 mod screening;
 
-// Bands of up to 512 students, by direct count. A refusal writes nothing.
+// Bands of up to 512 students, by direct count. A refusal writes nothing. Here and below what is lent goes on one by one, as C lends it, until it is
+// judged: a struct of a table and Y (`Places`) asks that they are right.
 pub fn place(
     aggregates: &[u32],
     table: &[u32],

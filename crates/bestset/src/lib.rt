@@ -40,6 +40,8 @@ fn told(lead: Option<Lead>) -> Result<BestSet, Refusal>
 
 // The best set of a student with a catalogue, a table, a year and a number of results that are right: for each result 3, 4, 5, then 6, 7, 8 are left.
 // The results stay where they are lent; beside them there are three numbers to each: score, identity, and which it clashes with.
+// The numbers stand in three arrays, for the search is lent two of them.
+// Catalogue, table, year and results go on one by one, as C lends them: a struct of the four would only be taken apart in each function.
 fn weigh(catalogue: &[u8], table: &[u8], year: u64, results: &[u8]) -> Result<BestSet, Refusal>
     requires { Begun (student catalogue.now year results.now) table.now }
     ensures { Promise (student catalogue.now year results.now) table.now result }

@@ -22,6 +22,7 @@ fn with_one(masks: Masks, i: usize, res: StudentResult) -> Masks
     let applied = kinds::is_applied(res.entry.kind);
     let english = res.entry.strand == ENGLISH;
     let maths = res.entry.strand == MATHEMATICS;
+    // `&`, so that filling in a mask has no branch of its own.
     Masks {
         usable: marked(masks.usable, i, counting::usable(res)),
         passes: marked(masks.passes, i, counting::passes(res)),

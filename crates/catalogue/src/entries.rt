@@ -44,7 +44,7 @@ fn known_entry(catalogue: &[u8], i: usize) -> Entry
     }
 }
 
-// The tests of an entry of this kind.
+// The tests of an entry of this kind, which `is_outside` reads once for all three: each asks that it is the entry's.
 fn strand_fits(kind: Kind, entry: Entry) -> bool
     requires { number kind ≡ entry.kind }
     ensures { result ≡ strand_fits entry }

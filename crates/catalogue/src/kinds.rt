@@ -17,7 +17,7 @@ pub enum Kind {
 #[derive(Clone, Copy, Debug, PartialEq, Eq)]
 pub struct NoKind(pub u8);
 
-// 1 to 6, in the order above.
+// 1 to 6, in the order above. By hand, here and for the tags of a file: std derives no TryFrom.
 impl TryFrom<u8> for Kind {
     type Error = NoKind;
 

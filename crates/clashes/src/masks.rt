@@ -15,7 +15,8 @@ pub struct Masks {
     pub applied_maths: u16,
 }
 
-// A mask with result i, if it is of the sort.
+// A mask with result i, if it is of the sort. That i is below 16 each function that shifts by it asks for itself: a struct around i would be taken
+// apart at every shift.
 pub fn marked(mask: u16, i: usize, belongs: bool) -> u16
     requires { i < most_results }
     ensures { result ≡ marked mask i belongs }

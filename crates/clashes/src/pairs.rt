@@ -62,6 +62,7 @@ fn set_against(results: &[u8], usable: u16, identities: &[u16; MOST_RESULTS], i:
         let same = same_subject(results, usable, i, j);
         let far = too_far(own, year);
         let shared = shares(identities, i, j);
+        // `&` and `|`, so that filling in a mask has no branch of its own.
         against = Against {
             again: marked(against.again, j, same & (year == own)),
             later: marked(against.later, j, same & (own < year)),

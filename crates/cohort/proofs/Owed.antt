@@ -15,7 +15,7 @@ use Rattle.paper.specs.declared.refusal.Refusal.TheVariants.{TooMany}
 use Rattle.catalogue.specs.Catalogue.{subjects}
 use Rattle.held.specs.Held.{Held, nothing}
 use Rattle.held.specs.Reading.{body, reading}
-use Rattle.held.specs.Promise.{summary_of, Lent, written, Promise}
+use Rattle.held.specs.Promise.{summary_of, Lent, written, ruling, Promise}
 use Rattle.held.specs.declared.Summary.{Summary}
 use Rattle.held.proofs.Promised.{small}
 use Rattle.cohort.specs.Inner.{verdict_on, told, Whole}
@@ -29,8 +29,11 @@ said-refused : {A B : Type 0} (g : A → B) (o : Outcome A) (x : Fault) → mapp
 said-refused g (accepted v) x e = absurd (let z : ◌≡◌ {A = ℕ} 0 1 = cc in omega arith)
 said-refused g (refused y) x e = let z : y ≡ x = cc in ap refused z
 
+pub stop_says : (file : List ℕ) (x : Refusal) → length file ≤ most_bytes → refused (fault x) ≡ verdict_on file → said {A = Summary} (Err x) ≡ ruling file
+stop_says file x h e = sym (ap (mapped summary_of) (small file h ∙ said-refused (λ held. tt {0}) (body file) (fault x) (sym e)))
+
 pub stop_owed : (file : List ℕ) (before : Lent) (x : Refusal) → length file ≤ most_bytes → refused (fault x) ≡ verdict_on file → Promise file before (Err x) before
-stop_owed file before x h e = record { says = sym (ap (mapped summary_of) (small file h ∙ said-refused (λ held. tt {0}) (body file) (fault x) (sym e))); leaves = refl }
+stop_owed file before x h e = record { says = stop_says file x h e; leaves = refl }
 
 pub go_owed : (file : List ℕ) (before b : Lent) (so : SoFar) → length file ≤ most_bytes → Whole file before so b → Promise file before (Ok (told so)) b
 go_owed file before b so h w =

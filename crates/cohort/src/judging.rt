@@ -10,7 +10,7 @@ ghost use Rattle.held.specs.Judging.{year_rules, subject_rules, score_rules, fig
 ghost use Rattle.cohort.specs.Inner.{verdict_on, field_of, Marks, Seen};
 ghost use Rattle.cohort.specs.InnerValues.{nine_or_ten, Slotted, slot_place, is_marked, marks_with};
 
-use crate::values;
+use crate::values::{self, Field};
 use catalogue::entries;
 use fields::heads::{HEAD_BYTES, Head};
 use fields::order::Far;
@@ -20,7 +20,6 @@ use paper::bytes;
 use paper::limits::{
     FIGURE_COUNT, LEAST_YEAR, MOST_RESULTS, MOST_SLOTS, MOST_STUDENTS, MOST_YEAR, SLOTS, TOP_SCORE,
 };
-use paper::ranges::within;
 use paper::refusal::Refusal;
 
 // What is noted of the fields before: the slots that have their score, one byte to a slot, and the ids.
@@ -34,7 +33,7 @@ struct Noted {
 fn judge_year(place: usize, value: &[u8]) -> Result<(), Refusal>
     ensures { said result ≡ judged (year_rules value.now place) tt }
 {
-    if !within(LEAST_YEAR, MOST_YEAR, u64::from(bytes::word_at(value, 0))) {
+    if !(LEAST_YEAR..=MOST_YEAR).contains(&u64::from(bytes::word_at(value, 0))) {
         return Err(Refusal::WrongYear(place));
     }
     Ok(())
@@ -67,13 +66,13 @@ fn is_given(marks: &[u8; MOST_SLOTS], subject: usize, slot: u8) -> bool
 }
 
 // Marks the slot of a score, tag 3.
-fn mark(tag: u8, value: &[u8], marks: &mut [u8; MOST_SLOTS])
-    requires { tag ≡ 3 → Slotted (word value.now 0) (byte value.now 2) }
-    ensures { marks.new ≡ marks_with tag value.now marks.old }
+fn mark(field: Field, marks: &mut [u8; MOST_SLOTS])
+    requires { field.tag ≡ 3 → Slotted (word field.value.now 0) (byte field.value.now 2) }
+    ensures { marks.new ≡ marks_with field.entry.tag field.entry.value.now marks.old }
 {
-    if let Ok(Tag::Score) = Tag::try_from(tag) {
-        let subject = usize::from(bytes::word_at(value, 0));
-        let place = slot_place(subject, bytes::byte_at(value, 2));
+    if let Ok(Tag::Score) = Tag::try_from(field.tag) {
+        let subject = usize::from(bytes::word_at(field.value, 0));
+        let place = slot_place(subject, bytes::byte_at(field.value, 2));
         marks[place] = 1;
     }
 }
@@ -94,7 +93,7 @@ fn judge_score(
         return Err(Refusal::WrongSubject(place));
     }
     let slot = bytes::byte_at(value, 2);
-    if !within(1, SLOTS as u64, u64::from(slot)) || TOP_SCORE < bytes::long_at(value, 3) {
+    if !(1..=SLOTS).contains(&usize::from(slot)) || TOP_SCORE < bytes::long_at(value, 3) {
         return Err(Refusal::WrongScore(place));
     }
     if is_given(marks, subject, slot) {
@@ -134,11 +133,12 @@ fn judge_student(place: usize, value: &[u8], ids: &[u32]) -> Result<(), Refusal>
 }
 
 // The values of a field, by what is noted.
-fn judge_values(place: usize, tag: u8, value: &[u8], far: Far, noted: &Noted) -> Result<(), Refusal>
+fn judge_values(place: usize, field: Field, far: Far, noted: &Noted) -> Result<(), Refusal>
     requires { (far.subjects ≤ most_subjects) × (far.students ≤ length noted.now.ids) }
     ensures { (held : Held) → Seen far held noted.now.marks noted.now.ids
-        → said result ≡ judged (value_rules held (field_of tag value.now) place) tt }
+        → said result ≡ judged (value_rules held (field_of field.entry.tag field.entry.value.now) place) tt }
 {
+    let Field { tag, value } = field;
     match Tag::try_from(tag) {
         Ok(Tag::Year) => judge_year(place, value),
         Ok(Tag::Subject) => judge_subject(place, value),
@@ -169,9 +169,10 @@ pub(crate) fn judge(file: &[u8]) -> Result<(), Refusal>
         let start = at + HEAD_BYTES;
         let end = start + length;
         let value = &file[start..end];
-        judge_values(at, tag, value, far, &noted)?;
-        mark(tag, value, &mut noted.marks);
-        values::note_id(far, tag, value, &mut noted.ids);
+        let field = Field { tag, value };
+        judge_values(at, field, far, &noted)?;
+        mark(field, &mut noted.marks);
+        values::note_id(far, field, &mut noted.ids);
         far = order::further(far, tag);
         at = end;
     }

@@ -12,7 +12,7 @@ ghost use Rattle.cohort.specs.Inner.{verdict_on, Whole};
 ghost use Rattle.cohort.specs.InnerValues.{NoneBroken, table_with, figures_to, result_to, numbers_with, rest, rest_with, Room, ResultRoom};
 
 use crate::steps::SoFar;
-use crate::values;
+use crate::values::{self, Field};
 use curve::Participation;
 use fields::heads::{HEAD_BYTES, Head};
 use fields::order::Far;
@@ -46,12 +46,12 @@ fn store_score(value: &[u8], table: &mut [u8])
 }
 
 // Tags 2 and 3 in the score table: a subject's row begins with every slot missing, and a score goes to its slot.
-fn take_scores(far: Far, tag: u8, value: &[u8], table: &mut [u8; TABLE_BYTES])
-    ensures { table.new ≡ table_with far tag value.now table.old }
+fn take_scores(far: Far, field: Field, table: &mut [u8; TABLE_BYTES])
+    ensures { table.new ≡ table_with far field.entry.tag field.entry.value.now table.old }
 {
-    match Tag::try_from(tag) {
+    match Tag::try_from(field.tag) {
         Ok(Tag::Subject) => rows::clear(table, far.subjects),
-        Ok(Tag::Score) => store_score(value, table),
+        Ok(Tag::Score) => store_score(field.value, table),
         _ => {}
     }
 }
@@ -96,18 +96,18 @@ fn take_result(
 // A field of a judged file: the numbers, and the buffers beside the score table and the ids.
 fn take_field(
     so: SoFar,
-    tag: u8,
-    value: &[u8],
+    field: Field,
     catalogue: &mut [u8; CATALOGUE_BYTES],
     figures: &mut [u32; FIGURE_COUNT],
     counts: &mut [u8; MOST_STUDENTS],
     results: &mut [u8; RESULTS_BYTES],
 ) -> SoFar
-    requires { Room so tag value.now }
-    ensures { (result ≡ numbers_with so tag value.now)
+    requires { Room so field.tag field.value.now }
+    ensures { (result ≡ numbers_with so field.entry.tag field.entry.value.now)
         × (rest catalogue.new figures.new counts.new results.new
-        ≡ rest_with so tag value.now (rest catalogue.old figures.old counts.old results.old)) }
+        ≡ rest_with so field.entry.tag field.entry.value.now (rest catalogue.old figures.old counts.old results.old)) }
 {
+    let Field { tag, value } = field;
     match Tag::try_from(tag) {
         Ok(Tag::Year) => SoFar {
             year: bytes::word_at(value, 0),
@@ -127,8 +127,8 @@ fn take_field(
     }
 }
 
-// All fields of a file that is accepted. The buffers are six parameters: a struct of them is no plainer, for each function that takes it
-// has to promise of each buffer that it stays the same reference.
+// All fields of a file that is accepted. The buffers are six parameters: a struct of them is no plainer, for `take_field`, which the loop
+// lends it, would promise of each buffer that it stays the same reference, beside what it holds.
 pub(crate) fn take(
     file: &[u8],
     catalogue: &mut [u8; CATALOGUE_BYTES],
@@ -155,9 +155,10 @@ pub(crate) fn take(
         let start = at + HEAD_BYTES;
         let end = start + length;
         let value = &file[start..end];
-        take_scores(far, tag, value, table);
-        values::note_id(far, tag, value, ids);
-        so = take_field(so, tag, value, catalogue, figures, counts, results);
+        let field = Field { tag, value };
+        take_scores(far, field, table);
+        values::note_id(far, field, ids);
+        so = take_field(so, field, catalogue, figures, counts, results);
         so.far = order::further(far, tag);
         at = end;
     }

@@ -32,7 +32,7 @@ pub fn place_each(aggregates: &[u32], table: &[u32], population: u32, bands: &mu
 {
     let places = Places { table, population };
     let mut remainder: usize = 0;
-    // By index: of a zip with `iter_mut` no clause tells what is written.
+    // By index: a zip with `iter_mut` doesn't tell what is written, and over the bands the aggregates would go by index.
     for (student, aggregate) in aggregates.iter().enumerate() {
         let c = at_least(aggregates, *aggregate);
         let reached = places.highest(c, places.top());

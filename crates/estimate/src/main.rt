@@ -13,6 +13,7 @@ fn read_input(mut from: Stdin, file: &mut [u8]) -> io::Result<usize>
     ensures { Within result file.new }
 {
     let mut n = 0;
+    // How much a read gives is not known before, so this is no `for`.
     while n < file.len() {
         match from.read(&mut file[n..])? {
             0 => break,

@@ -5,16 +5,16 @@ ghost use Rattle.paper.specs.Promises.{said};
 ghost use Rattle.fields.specs.Fields.{length_of};
 ghost use Rattle.fields.specs.Order.{further, follows, full, head_rules, end_rules};
 ghost use Rattle.fields.specs.Inner.{Countable};
+ghost use Rattle.fields.specs.Tags.{byte_of};
 
 use crate::tags::Tag;
 use paper::limits::{
     ENTRY_BYTES, FIGURE_BYTES, FIGURE_COUNT, MOST_STUDENTS, MOST_SUBJECTS, RESULT_BYTES, SLOT_BYTES,
 };
-use paper::ranges::within;
 use paper::refusal::Refusal;
 
-// The last field's tag, a byte as the definitions have it, 0 before the first field; the numbers of subjects and students, and of the
-// latest student's results.
+// The last field's tag, 0 before the first field; the numbers of subjects and students, and of the latest student's results. The tag is a
+// byte, and no Option<Tag>: the definition `follows` (specs/Order.antt) asks of the last one as a number.
 #[derive(Clone, Copy, Default)]
 pub struct Far {
     pub last: u8,
@@ -56,45 +56,42 @@ const FIGURES_BYTES: usize = FIGURE_COUNT * FIGURE_BYTES;
 
 const ID_BYTES: usize = 4;
 
-// The bytes of a tag's value; of another byte 0, which is refused for itself.
-fn length_of(tag: u8) -> usize
-    ensures { result ≡ length_of tag }
+// The bytes of a tag's value.
+fn length_of(tag: Tag) -> usize
+    ensures { result ≡ length_of (byte_of tag) }
 {
-    match Tag::try_from(tag) {
-        Ok(Tag::Year) => YEAR_BYTES,
-        Ok(Tag::Subject) => ENTRY_BYTES,
-        Ok(Tag::Score) => SCORE_BYTES,
-        Ok(Tag::Figures) => FIGURES_BYTES,
-        Ok(Tag::Student) => ID_BYTES,
-        Ok(Tag::Result) => RESULT_BYTES,
-        Err(_) => 0,
+    match tag {
+        Tag::Year => YEAR_BYTES,
+        Tag::Subject => ENTRY_BYTES,
+        Tag::Score => SCORE_BYTES,
+        Tag::Figures => FIGURES_BYTES,
+        Tag::Student => ID_BYTES,
+        Tag::Result => RESULT_BYTES,
     }
 }
 
-// Whether the tag is in order; another byte follows none, and is refused for itself.
-fn follows(last: u8, tag: u8) -> bool
-    ensures { result ≡ follows last tag }
+// Whether the tag is in order.
+fn follows(last: u8, tag: Tag) -> bool
+    ensures { result ≡ follows last (byte_of tag) }
 {
-    let before = u64::from(last);
-    match Tag::try_from(tag) {
-        Ok(Tag::Year) => before == 0,
-        Ok(Tag::Subject) => within(1, 2, before),
-        Ok(Tag::Score | Tag::Figures) => within(1, 3, before),
-        Ok(Tag::Student) => within(4, 6, before),
-        Ok(Tag::Result) => within(5, 6, before),
-        Err(_) => false,
+    match tag {
+        Tag::Year => last == 0,
+        Tag::Subject => (1..=2).contains(&last),
+        Tag::Score | Tag::Figures => (1..=3).contains(&last),
+        Tag::Student => (4..=6).contains(&last),
+        Tag::Result => (5..=6).contains(&last),
     }
 }
 
 // Whether there may be no more of the tag, with a limit of results to a student.
-fn is_full(limit: usize, far: Far, tag: u8) -> bool
-    ensures { result ≡ full limit far tag }
+fn is_full(limit: usize, far: Far, tag: Tag) -> bool
+    ensures { result ≡ full limit far (byte_of tag) }
 {
-    match Tag::try_from(tag) {
-        Ok(Tag::Subject) => MOST_SUBJECTS <= far.subjects,
-        Ok(Tag::Student) => MOST_STUDENTS <= far.students,
-        Ok(Tag::Result) => limit <= far.latest,
-        _ => false,
+    match tag {
+        Tag::Subject => MOST_SUBJECTS <= far.subjects,
+        Tag::Student => MOST_STUDENTS <= far.students,
+        Tag::Result => limit <= far.latest,
+        Tag::Year | Tag::Score | Tag::Figures => false,
     }
 }
 
@@ -102,10 +99,13 @@ fn is_full(limit: usize, far: Far, tag: u8) -> bool
 pub fn judge(limit: usize, far: Far, tag: u8, length: usize, place: usize) -> Result<(), Refusal>
     ensures { said result ≡ judged (head_rules limit far tag length place) tt }
 {
-    if Tag::try_from(tag).is_err() || length != length_of(tag) || !follows(far.last, tag) {
+    let Ok(known) = Tag::try_from(tag) else {
+        return Err(Refusal::Malformed(place));
+    };
+    if length != length_of(known) || !follows(far.last, known) {
         return Err(Refusal::Malformed(place));
     }
-    if is_full(limit, far, tag) {
+    if is_full(limit, far, known) {
         return Err(Refusal::TooMany(place));
     }
     Ok(())

@@ -16,7 +16,7 @@ pub enum Tag {
 #[derive(Clone, Copy, Debug, PartialEq, Eq)]
 pub struct NoTag(pub u8);
 
-// 1 to 6, in the order above.
+// 1 to 6, in the order above. By hand, as that of the kinds: std derives no TryFrom.
 impl TryFrom<u8> for Tag {
     type Error = NoTag;
 

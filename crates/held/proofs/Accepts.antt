@@ -2,12 +2,13 @@
 use Prim.Native.Nat.{ℕ, ◌<◌, ◌≤◌}
 use mathlib.Core.Path.{◌≡◌, ap}
 use mathlib.Core.Bool.{not}
-use mathlib.Core.List.{List}
+use mathlib.Core.List.{List, [], ◌∷◌}
 use lib.ListN.{length, get_or}
 use borrow.Author.Tests.{lt-leb, le-ltb, ne_eqb}
 use Rattle.paper.specs.Limits.{slots, top_score, least_year, most_year}
 use Rattle.paper.specs.Words.{◌=?◌}
 use Rattle.paper.specs.Bytes.{byte, word, long}
+use Rattle.paper.specs.Rulings.{Rule, ◌⇒◌, ◌at◌}
 use Rattle.paper.proofs.Firsts.{none_has}
 use Rattle.paper.proofs.Ranging.{true_within}
 use Rattle.paper.proofs.Ruled.{Unbroken}
@@ -18,7 +19,7 @@ use Rattle.scores.specs.Scores.{absent, found}
 use Rattle.curve.specs.Population.{population_rules}
 use Rattle.held.specs.Held.{Held, ids_of}
 use Rattle.held.specs.Taking.{figures_in}
-use Rattle.held.specs.Judging.{given, holds_id, value_rules}
+use Rattle.held.specs.Judging.{given, all_at, holds_id, value_rules}
 use Rattle.held.proofs.Figures.{kept_at}
 
 module _ (held : Held) (v : List ℕ) (p : ℕ) where
@@ -51,3 +52,10 @@ module _ (held : Held) (v : List ℕ) (p : ℕ) where
   -- results are judged with their student
   pub result-accepted : Fine 6
   result-accepted = tt
+
+-- of lists, beside what the code needs now
+
+-- the places of rules do not matter to whether one is broken
+all_at_lem : (p : ℕ) (rules : List Rule) → Unbroken rules → Unbroken (all_at p rules)
+all_at_lem p [] u = tt
+all_at_lem p (test ⇒ number at place ∷ rules) u = (u.0, all_at_lem p rules u.1)

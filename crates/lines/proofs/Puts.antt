@@ -55,3 +55,9 @@ put-part b rest t p k n x l e h a =
           ∙ ap (λ (j : ℕ). laid b j x) z;
       ends = omega (arith, a.ends);
     }
+
+-- of lists, beside what the code needs now
+
+-- a line that shows a text has no more bytes than it has room for
+pub line_short : {line : Line} {text : List ℕ} → Shows line text → length (shown line) ≤ line_bytes
+line_short = shown-short

@@ -10,7 +10,8 @@ use paper::limits::MOST_STUDENTS;
 
 pub mod writing;
 
-// Puts the lines of all students into the text, and answers where they end. What is noted stands in columns, as those who note it lend them.
+// Puts the lines of all students into the text, and answers where they end. What is noted stands in columns, and in no slice of structs: what
+// fills ranks, percentiles and bands is the C interface's too (`shtegomir_rank`, `shtegomir_place_direct`), to which C lends arrays of numbers.
 pub fn lines(
     ids: &[u32],
     numbers: &[u8],

@@ -1,10 +1,11 @@
 -- Lines of texts, and text added to them.
-use Prim.Native.Nat.{ℕ, ◌≤◌}
+use Prim.Native.Nat.{ℕ, zero, suc, ◌-◌, ◌≤◌, ◌<◌}
 use native.Mathlib.Omega.{arith}
+use native.Mathlib.Numerals.{unary_clauses}
 use mathlib.Core.Path.{◌≡◌, refl, sym, ap, subst, ◌∙◌}
-use mathlib.Core.List.{List, [], ◌++◌, append_assoc}
-use lib.ListN.{length, length-append}
-use Rattle.listing.specs.Inner.{Adds}
+use mathlib.Core.List.{List, [], ◌∷◌, ◌++◌, append_assoc}
+use lib.ListN.{length, set, replicate, length-append}
+use Rattle.listing.specs.Inner.{padded, Adds}
 use Rattle.listing.specs.Lines.{line_bytes, shown, Shows}
 use Rattle.listing.specs.declared.writing.Line.{Line}
 
@@ -33,3 +34,24 @@ shows text h = record { fits = h; same = refl }
 -- two lines that show one text are equal
 pub determined : {a b : Line} {text : List ℕ} → Shows a text → Shows b text → a ≡ b
 determined p q = ap line_of (p.same ∙ sym q.same)
+
+-- of lists, beside what the code needs now
+
+-- a byte more where there is room
+more_padded : (n : ℕ) (text : List ℕ) (byte : ℕ) → length text < n → set (padded n text) (length text) byte ≡ padded n (text ++ (byte ∷ []))
+unfolding padded
+more_padded zero text byte h = absurd (omega arith)
+more_padded (suc n) [] byte h = refl
+more_padded (suc n) (x ∷ text) byte h = ap (λ (l : List ℕ). x ∷ l) (more_padded n text byte (omega arith))
+
+zeros-padded : (n : ℕ) → padded n [] ≡ replicate n 0
+unfolding padded
+zeros-padded zero = refl
+zeros-padded (suc n) = ap (λ (l : List ℕ). 0 ∷ l) (zeros-padded n)
+
+-- a text that fits, and zeros after it
+text_padded : (n : ℕ) (text : List ℕ) → length text ≤ n → padded n text ≡ text ++ replicate (n - length text) 0
+unfolding padded
+text_padded n [] h = simp unary_clauses (zeros-padded n)
+text_padded zero (x ∷ text) h = absurd (omega arith)
+text_padded (suc n) (x ∷ text) h = simp unary_clauses (ap (λ (l : List ℕ). x ∷ l) (text_padded n text (omega arith)))

@@ -1,5 +1,5 @@
 -- What the functions below the four lines promise each other.
-use Rattle.std.specs.Prelude.{ℕ, ◌≡◌, ◌≤◌, List, ◌++◌, length}
+use Rattle.std.specs.Prelude.{ℕ, zero, suc, ◌≡◌, ◌≤◌, List, [], ◌∷◌, ◌++◌, length}
 use Rattle.listing.specs.Lines.{line_bytes, shown}
 use Rattle.listing.specs.declared.writing.Line.{Line}
 
@@ -10,3 +10,11 @@ pub record Adds (before after : Line) (more : List ℕ) : Type 0 where
 -- the bytes at most of how a line of a refusal ends: refused, a number of up to 3 digits, a place of up to 20, two spaces and a line feed
 abbrev pub ending_bytes : ℕ
 ending_bytes = 33
+
+-- of lists, beside what the code needs now
+
+-- the first n bytes of a text, with zeros after it where it is shorter
+unfoldable pub padded : ℕ → List ℕ → List ℕ
+padded zero text = []
+padded (suc n) [] = 0 ∷ padded n []
+padded (suc n) (byte ∷ text) = byte ∷ padded n text

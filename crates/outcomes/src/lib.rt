@@ -53,7 +53,8 @@ fn join(answer: Result<BestSet, Refusal>, j: usize, aggregates: &mut [u32]) -> u
 }
 
 // Notes what is told of each student, collects the aggregates of the eligible in file order, and counts these. The number of a student's
-// results is not needed after it, and gives way to the number of its refusal.
+// results is not needed after it, and gives way to the number of its refusal. Numbers, aggregates and places stand in columns, a byte or a number to
+// each: what ranks and places the eligible is lent slices of numbers.
 pub fn collect(
     catalogue: &[u8],
     table: &[u8],
@@ -68,6 +69,7 @@ pub fn collect(
 {
     let mut place = 0;
     let mut eligible = 0;
+    // By index: of each student one column is read and written over, and another written.
     for i in 0..counts.len() {
         let count = usize::from(counts[i]);
         let answer = best_at(catalogue, table, year, results, place, count);

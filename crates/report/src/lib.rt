@@ -36,6 +36,7 @@ fn list_noted(
         (listed_noted ids.now numbers.now places.now aggregates.now (table_of summary.rate) summary.population) }
 {
     let n = aggregates.len();
+    // Columns, and no array of structs: what ranks and places them fills a slice of numbers each.
     let mut ranks = [0u32; MOST_STUDENTS];
     let mut percentiles = [0u32; MOST_STUDENTS];
     let mut bands = [0u16; MOST_STUDENTS];

@@ -16,7 +16,7 @@ pub struct StudentResult {
     pub entry: Entry,
 }
 
-// Result i, one of those that there are.
+// Result i, one of those that there are. Each of the three asks that there is: the clause is of i, so that no struct around the bytes could hold it.
 pub fn result_at(catalogue: &[u8], results: &[u8], i: usize) -> StudentResult
     requires { i < held_in results.now }
     ensures { result ≡ result_of catalogue.now results.now i }

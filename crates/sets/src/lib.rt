@@ -3,7 +3,7 @@
 #![tactic(auto)]
 
 // The aggregate in hundredths and the set, bit i for result i.
-#[derive(Clone, Copy)]
+#[derive(Clone, Copy, Default)]
 pub struct BestSet {
     pub aggregate: u32,
     pub set: u16,

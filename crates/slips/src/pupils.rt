@@ -1,6 +1,8 @@
 // The subjects of the paper's example, and Geography; their scores; students' results.
 use crate::saying;
 use arrayvec::ArrayVec;
+use catalogue::kinds;
+use catalogue::kinds::Kind;
 use paper::limits::{ENTRY_BYTES, RESULT_BYTES, ROW_BYTES, SCORE_PARTS, SLOTS};
 use paper::refusal::Refusal;
 use scores::rows;
@@ -39,9 +41,9 @@ const LAST_SLOT: u8 = SLOTS as u8;
 const RESULTS: usize = 6 * RESULT_BYTES;
 
 // A subject's kind, strand and identity; its level is 0.
-fn subject(catalogue: &mut [u8; CATALOGUE], place: usize, kind: u8, strand: u8, identity: u8) {
+fn subject(catalogue: &mut [u8; CATALOGUE], place: usize, kind: Kind, strand: u8, identity: u8) {
     if place < SUBJECTS {
-        catalogue[ENTRY_BYTES * place] = kind;
+        catalogue[ENTRY_BYTES * place] = kind as u8;
         catalogue[ENTRY_BYTES * place + 1] = strand;
         catalogue[ENTRY_BYTES * place + 4] = identity;
     }
@@ -50,14 +52,14 @@ fn subject(catalogue: &mut [u8; CATALOGUE], place: usize, kind: u8, strand: u8, 
 // Essential Mathematics and Hospitality are Applied, the others General.
 fn catalogue() -> [u8; CATALOGUE] {
     let mut catalogue = [0u8; CATALOGUE];
-    subject(&mut catalogue, 0, 1, 1, 1);
-    subject(&mut catalogue, 1, 1, 2, 2);
-    subject(&mut catalogue, 2, 1, 0, 3);
-    subject(&mut catalogue, 3, 1, 0, 4);
-    subject(&mut catalogue, 4, 4, 2, 0);
-    subject(&mut catalogue, 5, 1, 0, 5);
-    subject(&mut catalogue, 6, 4, 0, 0);
-    subject(&mut catalogue, 7, 1, 0, 6);
+    subject(&mut catalogue, 0, Kind::General, kinds::ENGLISH, 1);
+    subject(&mut catalogue, 1, Kind::General, kinds::MATHEMATICS, 2);
+    subject(&mut catalogue, 2, Kind::General, 0, 3);
+    subject(&mut catalogue, 3, Kind::General, 0, 4);
+    subject(&mut catalogue, 4, Kind::Applied, kinds::MATHEMATICS, 0);
+    subject(&mut catalogue, 5, Kind::General, 0, 5);
+    subject(&mut catalogue, 6, Kind::Applied, 0, 0);
+    subject(&mut catalogue, 7, Kind::General, 0, 6);
     catalogue
 }
 

@@ -1,6 +1,5 @@
 // Table 3 of the technical document, of 51493 students: its rows, and the others between Lauren and Anna.
 use crate::saying;
-use paper::refusal::Refusal;
 use std::io::Stdout;
 
 // The students of the table.
@@ -26,15 +25,6 @@ fn named(values: &mut [u32; STUDENTS]) {
     values[STUDENTS - 1] = 8;
 }
 
-// A rank and a percentile for each.
-fn ranked(
-    values: &[u32; STUDENTS],
-    ranks: &mut [u32; STUDENTS],
-    percentiles: &mut [u32; STUDENTS],
-) -> Result<(), Refusal> {
-    ranks::ranks(values, ranks, percentiles)
-}
-
 // A row: the student, the polyrank, the rank and the percentile.
 fn row(out: Stdout, name: &[u8], value: u32, rank: u32, percentile: u32) {
     saying::text(out, b"Table 3: ");
@@ -54,7 +44,7 @@ pub(crate) fn run(out: Stdout) {
     let mut percentiles = [0u32; STUDENTS];
     between(&mut values);
     named(&mut values);
-    let answer = ranked(&values, &mut ranks, &mut percentiles);
+    let answer = ranks::ranks(&values, &mut ranks, &mut percentiles);
     if let Err(x) = answer {
         saying::refused(out, x);
         return;

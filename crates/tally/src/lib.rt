@@ -30,9 +30,9 @@ pub fn sum_up(counts: &mut [u32])
     ensures { counts.new ≡ sums_to counts.old }
 {
     let mut sum: u32 = 0;
-    for t in 0..counts.len() {
-        sum += counts[t];
-        counts[t] = sum;
+    for n in counts.iter_mut() {
+        sum += *n;
+        *n = sum;
     }
 }
 
@@ -42,9 +42,9 @@ pub fn take_apart(sums: &mut [u32])
     ensures { sums.new ≡ steps_of sums.old }
 {
     let mut below: u32 = 0;
-    for t in 0..sums.len() {
-        let sum = sums[t];
-        sums[t] = sum - below;
+    for n in sums.iter_mut() {
+        let sum = *n;
+        *n -= below;
         below = sum;
     }
 }
@@ -59,6 +59,7 @@ pub fn walk(table: &[u32], population: u32, counts: &mut [u32]) -> usize
     let mut reached = places.top();
     let mut c: u32 = 0;
     let mut remainder: usize = 0;
+    // By index, since it goes down: nothing is known of what `iter_mut().rev()` writes.
     for t in (0..counts.len()).rev() {
         let here = counts[t];
         c += here;

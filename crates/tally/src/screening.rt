@@ -4,15 +4,15 @@ ghost use Rattle.paper.specs.Rulings.{judged};
 ghost use Rattle.paper.specs.Promises.{said};
 ghost use Rattle.tally.specs.Rules.{table_rules, aggregate_rules};
 
+use paper::bounds;
 use paper::limits::{MOST_AGGREGATE, MOST_ENTRY, MOST_POPULATION};
 use paper::refusal::Refusal;
-use paper::{bounds, ranges};
 
 // 9 and 13: Y and the table's entries.
 pub fn judge_table(table: &[u32], population: u32) -> Result<(), Refusal>
     ensures { said result ≡ judged (table_rules table.now population) tt }
 {
-    if !ranges::within(1, MOST_POPULATION, u64::from(population)) {
+    if !(1..=MOST_POPULATION).contains(&u64::from(population)) {
         return Err(Refusal::WrongPopulation(0));
     }
     let entry = bounds::first_over(table, MOST_ENTRY);

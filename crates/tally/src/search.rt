@@ -57,7 +57,7 @@ impl Places<'_> {
     {
         let mut k = from.band;
         let mut sum = from.sum;
-        // The loop yields the band by break, as the paper has it.
+        // The loop yields the band by break (docs/DECISIONS.md, "Forms that the paper names").
         let band = loop {
             if k == 0 {
                 break 0;

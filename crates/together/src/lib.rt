@@ -18,7 +18,7 @@ fn rank_each(aggregates: &[u32], sums: &[u32], ranks: &mut [u32], percentiles: &
     ensures { (ranks.new ≡ read_of aggregates.now sums.now) × (percentiles.new ≡ percents_of aggregates.now sums.now) }
 {
     let n = aggregates.len() as u32;
-    // By index: of a zip with `iter_mut` no clause tells what is written.
+    // By index: a zip with `iter_mut` doesn't tell what is written, and two buffers are written at once.
     for (i, aggregate) in aggregates.iter().enumerate() {
         let rank = sums[*aggregate as usize];
         ranks[i] = rank;
@@ -42,7 +42,7 @@ fn band_each(aggregates: &[u32], found: &[u32], bands: &mut [u16])
     requires { Readable aggregates.now found.now bands.old }
     ensures { bands.new ≡ read_of aggregates.now found.now }
 {
-    // By index: of a zip with `iter_mut` no clause tells what is written.
+    // By index: a zip with `iter_mut` doesn't tell what is written, and over the bands the aggregates would go by index.
     for (student, aggregate) in aggregates.iter().enumerate() {
         bands[student] = found[*aggregate as usize] as u16;
     }

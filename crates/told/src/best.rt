@@ -15,16 +15,11 @@ pub struct Best {
     pub set: u16,
 }
 
-const NO_VALUES: BestSet = BestSet {
-    aggregate: 0,
-    set: 0,
-};
-
 impl From<Result<BestSet, Refusal>> for Best {
     ghost from_gives = { λ answer given. given ≡ form answer };
 
     fn from(answer: Result<BestSet, Refusal>) -> Best {
-        let BestSet { aggregate, set } = answer.unwrap_or(NO_VALUES);
+        let BestSet { aggregate, set } = answer.unwrap_or_default();
         Best {
             told: tell(answer),
             aggregate,

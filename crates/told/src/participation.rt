@@ -6,7 +6,8 @@ use crate::telling::{Told, tell};
 use curve::Participation;
 use paper::refusal::Refusal;
 
-// Refused: population and rate are 0. Laid out as the header's flat shtegomir_curve.
+// Refused: population and rate are 0. Laid out as the header's flat shtegomir_curve, whose fields have names of their own, so that no generic
+// struct serves here and for the best set.
 #[repr(C)]
 #[derive(Drop)]
 pub struct Curve {
@@ -15,16 +16,11 @@ pub struct Curve {
     pub rate: u32,
 }
 
-const NO_VALUES: Participation = Participation {
-    population: 0,
-    rate: 0,
-};
-
 impl From<Result<Participation, Refusal>> for Curve {
     ghost from_gives = { λ answer given. given ≡ form answer };
 
     fn from(answer: Result<Participation, Refusal>) -> Curve {
-        let Participation { population, rate } = answer.unwrap_or(NO_VALUES);
+        let Participation { population, rate } = answer.unwrap_or_default();
         Curve {
             told: tell(answer),
             population,

@@ -23,6 +23,6 @@ pub fn flatten(answer: Result<usize, Refusal>) -> Placed
 {
     Placed {
         told: tell(answer),
-        remainder: answer.unwrap_or(0) as u32,
+        remainder: answer.unwrap_or_default() as u32,
     }
 }

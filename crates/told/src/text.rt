@@ -19,7 +19,7 @@ impl From<Result<usize, Refusal>> for Text {
     fn from(answer: Result<usize, Refusal>) -> Text {
         Text {
             told: tell(answer),
-            length: answer.unwrap_or(0) as u64,
+            length: answer.unwrap_or_default() as u64,
         }
     }
 }

@@ -4,4 +4,4 @@ use Rattle.tally.proofs.take_apart.Goals as goal
 
 pub returns : goal.returns
 returns c =
-    parted_end c.loop-t.invariant (omega arith)
+    parted_end c.loop-n.invariant (omega arith)

@@ -1,33 +1,30 @@
-use Rattle.curve.specs.Population.{S, Qof, Eof}
-use Rattle.curve.specs.Inner.{TenFigures}
-use Rattle.paper.specs.Limits.{ages, most_figure}
-use Rattle.paper.specs.Lists.{sum}
-use Rattle.paper.proofs.Listing.{sum_step}
+use Rattle.std.specs.Slice.Iter.{iter_rest}
+use Rattle.paper.specs.Limits.{ages}
+use Rattle.curve.proofs.Weighing.{Weighed, weighed_none, weighed_more, long_same, weighed-all}
+use Prim.Native.Nat.{◌+◌, ◌*◌}
+use lib.ListN.{take, drop}
+use mathlib.Core.Logic.{⊎_elim}
+use mathlib.Core.Path.{◌≡◌, ap, ◌∙◌}
 use native.Mathlib.Omega.{arith}
-use native.Mathlib.Nat.{mul-le-mul}
-use Prim.Native.Nat.{ℕ, ◌+◌, ◌*◌, ◌≤◌}
-use mathlib.Core.List.{List}
-use mathlib.Core.Path.{◌≡◌, refl, ap, ◌∙◌}
 use Rattle.curve.proofs.figures.weighted.Goals as goal
 
--- Q times E of an age is at most the square of the greatest figure
-product_most : (figures : List ℕ) → TenFigures figures → (age : ℕ) → Qof figures age * Eof figures age ≤ most_figure * most_figure
-product_most figures f age = mul-le-mul (f.each age) (f.each (age + ages))
+more : (c : goal.After-from-in-loop-q) → Weighed c.args.figures.now (iter_rest c.next.new.self.a) (iter_rest c.next.new.self.b) (c.loop-q.s + c.in-Some.q.now * c.in-Some.e.now) (c.loop-q.invariant.0 + 1)
+more c = weighed_more c.requires c.loop-q.invariant.1 c.in-Some.ensures.steps.0 c.in-Some.ensures.steps.1
 
-pub loop-age-init : goal.loop-age-init
-unfolding sum
-loop-age-init c = (refl, omega arith)
+pub loop-q-init : goal.loop-q-init
+loop-q-init c =
+    let whole = c.into_iter-q-iterator.ensures.into_iter_gives in
+    let qs : iter_rest c.into_iter-q-iterator.result.a ≡ take ages c.args.figures.now = ap (λ z. iter_rest z.a) whole ∙ ap iter_rest c.zip-q-items.ensures.first ∙ c.iter.ensures.rest ∙ c.split_at.ensures.front in
+    let es : iter_rest c.into_iter-q-iterator.result.b ≡ drop ages c.args.figures.now = ap (λ z. iter_rest z.b) whole ∙ c.zip-q-items.ensures.second.0 ∙ c.split_at.ensures.back in
+    rw (qs, es) (0, weighed_none c.args.figures.now)
 
-pub loop-age-preserved : goal.loop-age-preserved
-loop-age-preserved c =
-    let f = c.args.figures.now in
-    let age = c.loop-age.age in
-    rw (c.from-q.ensures, c.from-e.ensures)
-    (omega (arith, sum_step age (λ i. Qof f i * Eof f i)), omega (arith, product_most f c.requires age))
+pub overflow_add-s : goal.overflow_add-s
+overflow_add-s c = rw (c.from.ensures, c.from-in-loop-q.ensures) (omega (arith, (more c).most, (more c).within))
+
+pub loop-q-preserved : goal.loop-q-preserved
+loop-q-preserved c = rw (c.from.ensures, c.from-in-loop-q.ensures) (c.loop-q.invariant.0 + 1, more c)
 
 pub returns : goal.returns
-unfolding S
 returns c =
-    let f = c.args.figures.now in
-    let e : c.loop-age.age ≡ ages = omega arith in
-    c.loop-age.invariant.0 ∙ ap (λ (n : ℕ). sum n (λ i. Qof f i * Eof f i)) e
+    let w = c.loop-q.invariant.1 in
+    weighed-all c.requires w (⊎_elim (λ e. e.1.0) (λ e. omega (arith, e.1.0, long_same c.requires w)) c.in-None.ensures.steps)
