@@ -58,7 +58,7 @@ put-part b rest t p k n x l e h a =
 
 -- of lists, beside what the code needs now
 
--- a line that shows a text has all its bytes, and it shows what it shows
+-- a line that shows a text has all its bytes, and shows no more than these
 pub line_long : {line : Line} {text : List ℕ} → Shows line text → length line.bytes ≡ line_bytes
 line_long {line = line} {text = text} w =
     let a : length (take line.length line.bytes) ≡ length text = ap length w.same in
