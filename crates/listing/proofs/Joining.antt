@@ -10,7 +10,8 @@ use borrow.Rule.Slice.PartMut.{put_mid}
 use Rattle.paper.specs.Parts.{laid}
 use Rattle.paper.proofs.Parted.{put-laid}
 use Rattle.listing.specs.Inner.{padded, line_of, Adds}
-use Rattle.listing.specs.Lines.{line_bytes, Shows}
+use Rattle.std.proofs.lemmas.List.{take_min}
+use Rattle.listing.specs.Lines.{line_bytes, shown, Shows}
 use Rattle.listing.specs.declared.writing.Line.{Line}
 
 -- what there is room for of a text, written over zeros, and after a text
@@ -50,6 +51,12 @@ text_padded (suc n) (x ∷ text) h = simp unary_clauses (ap (λ (l : List ℕ). 
 
 abbrev made : List ℕ → ℕ → Line
 made bytes long = record { bytes = bytes; length = long }
+
+-- the bytes up to where a line ends, or its bytes do, are what it shows
+pub up_to_end : (line : Line) (n : ℕ) → length line.bytes ≡ line_bytes → n ≡ min line.length line_bytes → take n line.bytes ≡ shown line
+up_to_end line n long e =
+    let whole : n ≡ min line.length (length line.bytes) = omega arith in
+    ap (λ (m : ℕ). take m line.bytes) whole ∙ take_min line.length line.bytes
 
 -- a text more, of which as much is copied as there is room for
 pub with_text : (line : Line) (text more part : List ℕ) (start n : ℕ) → line ≡ line_of text → start ≡ min line.length line_bytes → n ≡ min (length more) (line_bytes - start)

@@ -32,6 +32,7 @@ impl Line {
     }
 
     // What the line shows.
+    #[tactic(auto, using(crate::proofs::Joining::up_to_end))]
     pub fn as_bytes(&self) -> &[u8]
         ensures { result.now ≡ shown self.now }
     {
@@ -39,6 +40,7 @@ impl Line {
         &self.bytes[..end]
     }
 
+    #[tactic(auto, using(crate::proofs::Joining::with_text))]
     pub(crate) fn text(mut self, text: &[u8]) -> Line
         ensures { Adds self result text.now }
     {
