@@ -38,6 +38,9 @@ stop_reads file x h e = small file h ∙ said-refused (λ held. tt {0}) (body fi
 pub stop_says : (file : List ℕ) (x : Refusal) → length file ≤ most_bytes → refused (fault x) ≡ verdict_on file → said {A = Summary} (Err x) ≡ ruling file
 stop_says file x h e = sym (ap (mapped summary_of) (stop_reads file (fault x) h e))
 
+pub stop_owed : (file : List ℕ) (before : Lent) (x : Refusal) → length file ≤ most_bytes → refused (fault x) ≡ verdict_on file → Promise file before (Err x) before
+stop_owed file before x h e = record { says = stop_says file x h e; leaves = refl }
+
 pub exit_says : (file : List ℕ) (r : Result Summary Refusal) (x : Refusal) → IsErrAnd r (λ y. y ≡ x) → length file ≤ most_bytes → refused (fault x) ≡ verdict_on file → said r ≡ ruling file
 exit_says file r x i h e = let p = err_from_is_err_and r i in rw (p.1, p.2) (stop_says file x h e)
 
