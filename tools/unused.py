@@ -47,7 +47,13 @@ class Source:
                 return True
             if at == module and there is None and f"{local}.{name}" in self.text:
                 return True
-        return False
+        return self.path.endswith(".rt") and self.named_in_code(module, name)
+
+    def named_in_code(self, module, name):
+        """Whether the code names it by its path, as the tactic of a function does: `using(crate::proofs::Owed::exit_says)`."""
+        crate, *rest = module.split(".")[1:]
+        path = "::".join(rest + [name])
+        return re.search(r"\b(?:crate|%s)::%s\b" % (crate, re.escape(path)), self.text) is not None
 
 
 def split_names(names):

@@ -53,8 +53,8 @@ pub(crate) fn read_all(
         let slot = scoring::slot_of(table, result);
         readable::judge_result(catalogue.len() / ENTRY_BYTES, year, result, slot, i)?;
         masks = with_one(masks, i, result);
-        scores[i] = scoring::score_of(slot);
         identities[i] = scoring::identity_of(result);
+        scores[i] = scoring::score_of(slot);
     }
     Ok(masks)
 }

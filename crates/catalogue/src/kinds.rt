@@ -1,6 +1,6 @@
 // The kinds of subjects, their strands and levels, by name.
 ghost use Rattle.std.specs.Prelude.{◌≡◌};
-ghost use Rattle.catalogue.specs.Kinds.{Names, is_general, is_applied, is_vet, is_identified};
+ghost use Rattle.catalogue.specs.Kinds.{Names, number, is_general, is_applied, is_vet, is_identified};
 
 // The kinds, by their numbers; the first three count as General.
 #[derive(Clone, Copy, Debug, PartialEq, Eq)]
@@ -33,6 +33,15 @@ impl TryFrom<u8> for Kind {
             6 => Ok(Kind::Vet),
             _ => Err(NoKind(number)),
         }
+    }
+}
+
+// Back to the number that stands in a catalogue.
+impl From<Kind> for u8 {
+    ghost from_gives = { λ kind given. given ≡ number kind };
+
+    fn from(kind: Kind) -> u8 {
+        kind as u8
     }
 }
 

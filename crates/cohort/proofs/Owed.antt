@@ -3,7 +3,9 @@ use Prim.Native.Nat.{ℕ, ◌<◌, ◌≤◌}
 use native.Mathlib.Omega.{arith}
 use mathlib.Core.Path.{◌≡◌, refl, sym, ap, ◌∙◌}
 use mathlib.Core.List.{List}
-use Rattle.std.proofs.Common.{Ok, Err}
+use Rattle.std.proofs.Common.{Result, Ok, Err}
+use Rattle.std.specs.Result.{IsErrAnd}
+use Rattle.std.proofs.lemmas.Result.{err_from_is_err_and}
 use lib.ListN.{length}
 use borrow.Author.Tests.{lt-ltb}
 use Rattle.paper.specs.Limits.{most_bytes}
@@ -29,11 +31,18 @@ said-refused : {A B : Type 0} (g : A → B) (o : Outcome A) (x : Fault) → mapp
 said-refused g (accepted v) x e = absurd (let z : ◌≡◌ {A = ℕ} 0 1 = cc in omega arith)
 said-refused g (refused y) x e = let z : y ≡ x = cc in ap refused z
 
+-- what the judging refuses is refused: by the reading, and by the answer, one that a `?` returns too
+pub stop_reads : (file : List ℕ) (x : Fault) → length file ≤ most_bytes → refused x ≡ verdict_on file → reading file ≡ refused x
+stop_reads file x h e = small file h ∙ said-refused (λ held. tt {0}) (body file) x (sym e)
+
 pub stop_says : (file : List ℕ) (x : Refusal) → length file ≤ most_bytes → refused (fault x) ≡ verdict_on file → said {A = Summary} (Err x) ≡ ruling file
-stop_says file x h e = sym (ap (mapped summary_of) (small file h ∙ said-refused (λ held. tt {0}) (body file) (fault x) (sym e)))
+stop_says file x h e = sym (ap (mapped summary_of) (stop_reads file (fault x) h e))
 
 pub stop_owed : (file : List ℕ) (before : Lent) (x : Refusal) → length file ≤ most_bytes → refused (fault x) ≡ verdict_on file → Promise file before (Err x) before
 stop_owed file before x h e = record { says = stop_says file x h e; leaves = refl }
+
+pub exit_says : (file : List ℕ) (r : Result Summary Refusal) (x : Refusal) → IsErrAnd r (λ y. y ≡ x) → length file ≤ most_bytes → refused (fault x) ≡ verdict_on file → said r ≡ ruling file
+exit_says file r x i h e = let p = err_from_is_err_and r i in rw (p.1, p.2) (stop_says file x h e)
 
 pub go_owed : (file : List ℕ) (before b : Lent) (so : SoFar) → length file ≤ most_bytes → Whole file before so b → Promise file before (Ok (told so)) b
 go_owed file before b so h w =

@@ -8,7 +8,9 @@ use report::TEXT_BYTES;
 use std::io;
 use std::io::{Print, Read, Stderr, Stdin, Stdout};
 
-// Reads until the buffer is full or the input ends, and answers how many bytes were read.
+// Reads until the buffer is full or the input ends, and answers how many bytes were read. Not inlined: the search for the best set, which is inlined
+// into main, then stands where the processor takes less time for it (docs/DESIGN-PASS.md, "Speed").
+#[inline(never)]
 fn read_input(mut from: Stdin, file: &mut [u8]) -> io::Result<usize>
     ensures { Within result file.new }
 {

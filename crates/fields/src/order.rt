@@ -115,7 +115,7 @@ pub fn judge(limit: usize, far: Far, tag: u8, length: usize, place: usize) -> Re
 pub fn judge_end(far: Far, end: usize) -> Result<(), Refusal>
     ensures { said result ≡ judged (end_rules far end) tt }
 {
-    if far.last < Tag::Figures as u8 {
+    if far.last < u8::from(Tag::Figures) {
         return Err(Refusal::Malformed(end));
     }
     Ok(())

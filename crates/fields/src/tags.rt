@@ -1,5 +1,6 @@
 // The tags of a file's fields.
-ghost use Rattle.fields.specs.Tags.{Names};
+ghost use Rattle.std.specs.Prelude.{◌≡◌};
+ghost use Rattle.fields.specs.Tags.{Names, byte_of};
 
 // The tags, by their bytes.
 #[derive(Clone, Copy, Debug, PartialEq, Eq)]
@@ -32,5 +33,14 @@ impl TryFrom<u8> for Tag {
             6 => Ok(Tag::Result),
             _ => Err(NoTag(byte)),
         }
+    }
+}
+
+// Back to the byte that stands in a file.
+impl From<Tag> for u8 {
+    ghost from_gives = { λ tag given. given ≡ byte_of tag };
+
+    fn from(tag: Tag) -> u8 {
+        tag as u8
     }
 }

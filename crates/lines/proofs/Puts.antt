@@ -3,7 +3,7 @@ use Prim.Native.Nat.{ℕ, ◌+◌, ◌-◌, ◌≤◌}
 use native.Mathlib.Omega.{arith}
 use mathlib.Core.Path.{◌≡◌, refl, sym, ap, ◌∙◌}
 use mathlib.Core.List.{List, [], ◌++◌}
-use lib.ListN.{length, take, drop, length-append, length-drop, take-append-drop}
+use lib.ListN.{length, take, drop, length-append, length-drop, length-replicate, take-append-drop}
 use lib.Seq.{length-take-le}
 use Rattle.paper.specs.Parts.{laid}
 use borrow.Rule.Slice.PartMut.{put_mid}
@@ -58,6 +58,14 @@ put-part b rest t p k n x l e h a =
 
 -- of lists, beside what the code needs now
 
--- a line that shows a text has no more bytes than it has room for
-pub line_short : {line : Line} {text : List ℕ} → Shows line text → length (shown line) ≤ line_bytes
-line_short = shown-short
+-- a line that shows a text has all its bytes, and shows no more than these
+pub line_long : {line : Line} {text : List ℕ} → Shows line text → length line.bytes ≡ line_bytes
+line_long {line = line} {text = text} w =
+    let a : length (take line.length line.bytes) ≡ length text = ap length w.same in
+    let b : length (drop line.length line.bytes) ≡ line_bytes - length text = ap length w.rest ∙ length-replicate (line_bytes - length text) 0 in
+    let e : length line.bytes ≡ length (take line.length line.bytes) + length (drop line.length line.bytes) =
+    ap length (sym (take-append-drop line.length line.bytes)) ∙ length-append (take line.length line.bytes) (drop line.length line.bytes) in
+    omega (arith, w.fits)
+
+pub line_short : {line : Line} {text : List ℕ} → Shows line text → line.length ≤ line_bytes
+line_short w = omega (arith, w.fits, w.long)

@@ -1,13 +1,14 @@
 -- The digits of a number: one, or those of its tenth and the last.
-use Prim.Native.Nat.{ℕ, zero, suc, ◌-◌, ◌+◌, ◌/◌, ◌%◌, ◌^◌, ◌≤◌, ◌<◌}
+use Prim.Native.Nat.{ℕ, zero, suc, ◌-◌, ◌+◌, ◌*◌, ◌/◌, ◌%◌, ◌^◌, ◌≤◌, ◌<◌}
 use native.Mathlib.Omega.{arith}
 use native.Mathlib.Decide.{dec_lt}
+use native.Mathlib.Nat.{pow-suc}
 use native.Mathlib.Numerals.{sub-one}
 use mathlib.Core.Path.{◌≡◌, refl, sym, ap, ◌∙◌}
 use mathlib.Core.List.{List, [], ◌∷◌, ◌++◌}
-use lib.ListN.{length}
+use lib.ListN.{length, length-append}
 use Rattle.std.specs.Fmt.{decimal}
-use Rattle.std.proofs.lemmas.Fmt.{decimal_digit, decimal_step, length-decimal-le}
+use Rattle.std.proofs.lemmas.Fmt.{decimal_digit, decimal_step}
 use borrow.Author.Tests.{lt-ltb, le-ltb}
 use Rattle.listing.specs.Text.{zero_digit, digit, digits_in, digits}
 
@@ -63,5 +64,14 @@ printed =
     (λ n h f l. decimal_step n h l ∙ ap (λ (t : List ℕ). t ++ (digit n ∷ [])) (f (omega arith)) ∙ sym (more_digits n h))
 
 -- a number below a power of ten has no more digits than the power
-pub few-digits : (n k : ℕ) → 0 < k → n < 10 ^ k → n < 18446744073709551616 → length (digits n) ≤ k
-few-digits n k s h l = rw (← printed n l) (length-decimal-le k n s h l)
+pub few-digits : (n k : ℕ) → n < 10 ^ suc k → length (digits n) ≤ suc k
+few-digits =
+    by_tenths (λ n. (k : ℕ) → n < 10 ^ suc k → length (digits n) ≤ suc k)
+    (λ n h k l. rw (one-digit n h) (omega arith))
+    fewer
+  where
+    fewer : (n : ℕ) → 10 ≤ n → ((k : ℕ) → n / 10 < 10 ^ suc k → length (digits (n / 10)) ≤ suc k) → (k : ℕ) → n < 10 ^ suc k → length (digits n) ≤ suc k
+    fewer n h f zero l = absurd (omega arith)
+    fewer n h f (suc k) l =
+        let m : n < 10 ^ suc k * 10 = rw (pow-suc 10 (suc k)) at l in
+        rw (more_digits n h) (simp length-append (omega (arith, f k (omega arith))))

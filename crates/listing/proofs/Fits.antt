@@ -13,20 +13,20 @@ use Rattle.listing.proofs.Digits.{few-digits}
 
 module _ (n : ℕ) (h : n < 4294967296) where
   digits-32 : length (digits n) ≤ 10
-  digits-32 = few-digits n 10 (omega arith) (omega arith) (omega arith)
+  digits-32 = few-digits n 9 (omega arith)
 
   decimals_2 : length (decimals2 n) ≤ 11
-  decimals_2 = simp length-append (omega (arith, few-digits (n / hundredths) 8 (omega arith) (omega arith) (omega arith)))
+  decimals_2 = simp length-append (omega (arith, few-digits (n / hundredths) 7 (omega arith)))
 
   decimals_3 : length (decimals3 n) ≤ 11
-  decimals_3 = simp length-append (omega (arith, few-digits (n / thousandths) 7 (omega arith) (omega arith) (omega arith)))
+  decimals_3 = simp length-append (omega (arith, few-digits (n / thousandths) 6 (omega arith)))
 
 atar-16 : (k : ℕ) → k < 65536 → length (atar k) ≤ 13
 unfolding atar
 atar-16 k h = go (dec_lt low_band k)
   where
     go : Dec (low_band < k) → length (atar k) ≤ 13
-    go (yes l) = rw (lt-ltb low_band k l, atar) (simp length-append (omega (arith, few-digits (band_step * k / hundredths) 4 (omega arith) (omega arith) (omega arith))))
+    go (yes l) = rw (lt-ltb low_band k l, atar) (simp length-append (omega (arith, few-digits (band_step * k / hundredths) 3 (omega arith))))
     go (no l) = rw (le-ltb low_band k (omega arith), atar) (omega arith)
 
 pub cohort-fits : (students eligible remainder : ℕ) → students < 4294967296 → eligible < 4294967296 → remainder < 4294967296 → length (cohort_line students eligible remainder) ≤ line_bytes
@@ -37,7 +37,7 @@ pub student-fits : (id aggregate rank percentile band : ℕ) → id < 4294967296
 student-fits i t r p k a b c d e = simp length-append (omega (arith, digits-32 i a, simp length-append at (decimals_2 t b), digits-32 r c, simp length-append at (decimals_3 p d), atar-16 k e))
 
 pub file-fits : (number place : ℕ) → number < 256 → place < 18446744073709551616 → length (file_line number place) ≤ ending_bytes
-file-fits n p a b = simp length-append (omega (arith, few-digits n 3 (omega arith) (omega arith) (omega arith), few-digits p 20 (omega arith) (omega arith) (omega arith)))
+file-fits n p a b = simp length-append (omega (arith, few-digits n 2 (omega arith), few-digits p 19 (omega arith)))
 
 pub refused-fits : (id number place : ℕ) → id < 4294967296 → length (file_line number place) ≤ ending_bytes → length (refused_line id number place) ≤ line_bytes
 refused-fits i n p a b = simp length-append (omega (arith, digits-32 i a, simp length-append at b))

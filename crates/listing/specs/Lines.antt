@@ -1,5 +1,5 @@
 -- The lines of the listing.
-use Rattle.std.specs.Prelude.{ℕ, ◌≤◌, ◌≡◌, List, [], ◌∷◌, ◌++◌, length}
+use Rattle.std.specs.Prelude.{ℕ, ◌-◌, ◌≤◌, ◌≡◌, List, [], ◌∷◌, ◌++◌, length, take, drop, replicate}
 use Rattle.listing.specs.Text.{line_feed, space, digits, decimals2, decimals3, atar}
 use Rattle.listing.specs.declared.writing.Line.{Line}
 
@@ -44,11 +44,13 @@ file_line number place = ended (refused ∷ digits number ∷ digits place ∷ [
 abbrev pub line_bytes : ℕ
 line_bytes = 64
 
--- what a line shows
+-- what a line shows: the first of its bytes, as many as its length says
 abbrev pub shown : Line → List ℕ
-shown line = line.bytes.items
+shown line = take line.length line.bytes
 
--- a line shows a text, which fits
+-- a line shows a text, which fits, and holds nothing else: past the text its bytes are 0
 pub record Shows (line : Line) (text : List ℕ) : Type 0 where
   pub fits : length text ≤ line_bytes
   pub same : shown line ≡ text
+  pub long : line.length ≡ length text
+  pub rest : drop line.length line.bytes ≡ replicate (line_bytes - length text) 0

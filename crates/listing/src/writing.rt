@@ -1,20 +1,20 @@
-// A line, and what is written at its end. A part that a line has no room for is left out.
+// A line, and what is written at its end. What it has no room for is left out.
 ghost use Rattle.std.specs.Prelude.{◌≡◌, [], ◌∷◌, ◌≤◌, length};
 ghost use Rattle.listing.specs.Text.{digit, digits, decimals2, decimals3, atar};
 ghost use Rattle.listing.specs.Lines.{file_line, shown};
-ghost use Rattle.listing.specs.Inner.{Adds, ending_bytes};
+ghost use Rattle.listing.specs.Inner.{line_of, Adds, ending_bytes};
 
-use arrayvec::ArrayVec;
 use paper::limits::BAND_STEP;
 use paper::units::{HUNDREDTHS, THOUSANDTHS};
 
 // The bytes that a line has room for.
 pub const LINE_BYTES: usize = 64;
 
-// What is written so far.
-#[derive(Drop)]
+// The bytes of the text, then zeros. It is no ArrayVec: a line is copied, and its bytes and its length are public.
+#[derive(Clone, Copy)]
 pub struct Line {
-    bytes: ArrayVec<u8, LINE_BYTES>,
+    pub bytes: [u8; LINE_BYTES],
+    pub length: usize,
 }
 
 // The highest band whose ATAR is not told as a number.
@@ -23,24 +23,32 @@ const LOW_BAND: u16 = 600;
 // A line is made of parts and not by `write!`, which answers a Result that no clause shows to be Ok: a line cannot fail.
 impl Line {
     pub(crate) fn new() -> Line
-        ensures { shown result ≡ [] }
+        ensures { result ≡ line_of [] }
     {
         Line {
-            bytes: ArrayVec::new(),
+            bytes: [0; LINE_BYTES],
+            length: 0,
         }
     }
 
     // What the line shows.
+    #[tactic(auto, using(crate::proofs::Joining::up_to_end))]
     pub fn as_bytes(&self) -> &[u8]
         ensures { result.now ≡ shown self.now }
     {
-        self.bytes.as_slice()
+        let end = self.length.min(LINE_BYTES);
+        &self.bytes[..end]
     }
 
+    #[tactic(auto, using(crate::proofs::Joining::with_text))]
     pub(crate) fn text(mut self, text: &[u8]) -> Line
         ensures { Adds self result text.now }
     {
-        let _ = self.bytes.try_extend_from_slice(text);
+        let start = self.length.min(LINE_BYTES);
+        let n = text.len().min(LINE_BYTES - start);
+        let end = start + n;
+        self.bytes[start..end].copy_from_slice(&text[..n]);
+        self.length = end;
         self
     }
 

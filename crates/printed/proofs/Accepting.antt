@@ -4,7 +4,7 @@ use native.Mathlib.Omega.{arith}
 use mathlib.Core.Path.{◌≡◌, refl, ap, subst, ◌∙◌}
 use mathlib.Core.Bool.{Bool, false}
 use mathlib.Core.List.{List}
-use Rattle.std.proofs.Common.{Result, Ok}
+use Rattle.std.proofs.Common.{Result, Ok, Err}
 use lib.ListN.{length, get_or}
 use borrow.Author.Tests.{le-ltb, eq-eqb}
 use Rattle.paper.specs.Limits.{most_aggregate, band_count, most_students, most_values, most_population, most_entry, least_rate, most_rate}
@@ -81,3 +81,8 @@ all_listed rate population c p drawing table {ranks} {percentiles} {bands} h g k
     let e = all_ranked rate population c.aggregates p.cohort (lent c.ranks c.percentiles) (lent ranks percentiles) p.even.ranks p.even.percentiles g in
     let f = all_placed rate population c.aggregates p.cohort c.bands drawing table bands p.even.bands h k in
     (λ i. columns c.aggregates (e i).ranks (e i).percentiles (f.1 i), f.0)
+
+-- of answers, beside what the code needs now: the remainder of an answer, 0 of a refusal
+abbrev pub remainder_in : Result ℕ Refusal → ℕ
+remainder_in (Ok n) = n
+remainder_in (Err x) = 0

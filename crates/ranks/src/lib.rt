@@ -16,8 +16,8 @@ fn fill(values: &[u32], ranks: &mut [u32], percentiles: &mut [u32])
     requires { Fillable values.now ranks.old percentiles.old }
     ensures { Ranked values.now (lent ranks.new percentiles.new) }
 {
-    ranks.copy_from_slice(values);
-    percentiles.copy_from_slice(values);
+    sort::copy(values, ranks);
+    sort::copy(values, percentiles);
     sort::sort(ranks, percentiles);
     search::count_each(values, percentiles, ranks);
     percent::percent_each(ranks, percentiles);

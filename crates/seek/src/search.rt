@@ -100,10 +100,11 @@ impl Search<'_> {
         ensures { Tried (Allowed self.now.test (value_at self.now.clashes.now)) (value_at self.now.scores.now) (key most_results set) result }
     {
         let mut best = best;
-        // Up to the last but one: a fifth comes after it.
-        for i in at..self.held - 1 {
+        // By the place of the fifth: where there is none for it the loop has ended, so that the fifth's loop need not test that again.
+        for next in at + 1..self.held {
+            let i = next - 1;
             if self.may_join(set, i) {
-                best = self.with_fifth(best, set | (1u16 << i), sum + self.scores[i], i + 1);
+                best = self.with_fifth(best, set | (1u16 << i), sum + self.scores[i], next);
             }
         }
         best

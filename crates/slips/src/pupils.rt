@@ -43,7 +43,7 @@ const RESULTS: usize = 6 * RESULT_BYTES;
 // A subject's kind, strand and identity; its level is 0.
 fn subject(catalogue: &mut [u8; CATALOGUE], place: usize, kind: Kind, strand: u8, identity: u8) {
     if place < SUBJECTS {
-        catalogue[ENTRY_BYTES * place] = kind as u8;
+        catalogue[ENTRY_BYTES * place] = u8::from(kind);
         catalogue[ENTRY_BYTES * place + 1] = strand;
         catalogue[ENTRY_BYTES * place + 4] = identity;
     }

@@ -1,6 +1,5 @@
-use Rattle.cohort.proofs.Owed.{large_owed, stop_owed, go_owed}
+use Rattle.cohort.proofs.Owed.{large_owed, go_owed}
 use Rattle.std.proofs.Common.{Ok}
-use Rattle.std.proofs.lemmas.Result.{err_from_is_err_and}
 use Rattle.held.specs.declared.Summary.{Summary}
 use Rattle.held.specs.Promise.{Lent, lent, Promise}
 use mathlib.Core.Path.{sym, subst}
@@ -9,11 +8,6 @@ use Rattle.cohort.proofs.read.Goals as goal
 pub returns-then-file-gt-MOST_BYTES : goal.returns-then-file-gt-MOST_BYTES
 returns-then-file-gt-MOST_BYTES c =
     large_owed c.args.file.now _ c.if-file-gt-MOST_BYTES.true
-
-pub returns-in_err-judge : goal.returns-in_err-judge
-returns-in_err-judge c =
-    let p = err_from_is_err_and c.from_residual.result c.from_residual.ensures.1 in
-    rw (p.1, p.2) (stop_owed c.args.file.now _ c.in_err-judge.field-0.0 c.if-file-gt-MOST_BYTES.false c.in_err-judge.ensures)
 
 pub returns : goal.returns
 returns c =

@@ -8,7 +8,7 @@ use Rattle.ranks.proofs.fill.Goals.{After-count_each}
 
 -- the values are counted as where they are sorted
 same : (c : After-count_each) → SameCounts c.args.values.now c.sort.new.to
-same c = same_of c.copy_from_slice-2.ensures.after c.sort.ensures.1
+same c = same_of c.copy-2.ensures c.sort.ensures.1
 
 pub percent_each-requires : goal.percent_each-requires
 percent_each-requires c =
